@@ -1,0 +1,47 @@
+-- `masks::range_mask` meets its contract. Assumes nothing.
+use mathlib.Core.Path.{sym, ap, ap₂, _∙_}
+use Prim.Native.Nat.{ℕ, _-_, _^_}
+use native.Mathlib.Omega.{arith}
+use lib.Bits.{bitAnd}
+use Rattle.word_bits.specs.LowMask.{lowMask}
+use Rattle.masks.proofs.MaskLaws.{mask-after, mask-is}
+use borrow.Author.Needs.{needs}
+use Rattle.masks.proofs.range_masks.range_mask.Statement.{statement}
+use Rattle.masks.proofs.range_masks.range_mask.Tie as tie
+
+returns : tie.Need-returns
+returns c = sym (mask-after (c .before .args .start) (c .before .args .end) (c .before .args .word) (omega arith))
+
+mul-base : tie.Need-mul-base
+mul-base c = search needs
+
+above-requires : tie.Need-above-requires
+above-requires c κs = search needs
+
+low-mask-requires : tie.Need-low-mask-requires
+low-mask-requires c κs = search needs
+
+above-requires-2 : tie.Need-above-requires-2
+above-requires-2 c κs = search needs
+
+low-mask-requires-2 : tie.Need-low-mask-requires-2
+low-mask-requires-2 c κs = search needs
+
+returns-2 : tie.Need-returns-2
+returns-2 c =
+    ap₂ (λ (e s : ℕ). bitAnd e ((2 ^ 64 - 1) - s))
+    (c .before .before .low-mask .ensures ∙ ap lowMask (c .before .before .before .above .ensures))
+    (c .low-mask2 .ensures ∙ ap lowMask (c .before .above2 .ensures))
+    ∙ mask-is _ _ _
+
+pub range-mask-spec : {M : Type 1} → statement M
+range-mask-spec =
+    tie.close
+    (tie.spec
+    returns
+    mul-base
+    above-requires
+    low-mask-requires
+    above-requires-2
+    low-mask-requires-2
+    returns-2)

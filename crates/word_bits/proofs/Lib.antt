@@ -1,0 +1,9 @@
+pub mod Order
+pub mod Digits
+pub mod Operations
+pub mod Ones
+pub mod Ends
+pub mod LowMasks
+pub mod LowestBit
+pub mod Tabulate
+mod Examples
