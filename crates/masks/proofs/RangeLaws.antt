@@ -1,8 +1,9 @@
 -- What a range covers, which words it meets, and what question 5 tells. Assumes nothing.
-use mathlib.Core.Path.{_≡_, refl, ap, ap₂, _∙_}
+use mathlib.Core.Path.{_≡_, refl, sym, ap, ap₂, _∙_}
 use mathlib.Core.Bool.{Bool, true, false, cond, not, _&&_, and-false}
 use mathlib.Core.Logic.{_⊎_, inl, inr}
 use Prim.Native.Nat.{ℕ, _+_, _-_, _*_, _/_, _≤_, _<_}
+use native.Mathlib.Nat.{not-le-of-lt}
 use native.Mathlib.Omega.{arith}
 use borrow.Author.Tests.{lt-ltb, le-ltb, le-leb, lt-leb, leb-true}
 use lib.Dec.{leb, ltb}
@@ -22,6 +23,16 @@ covers-below start end p a = ap (λ (t : Bool). t && ltb p end) (lt-leb start p 
 pub covers-above : (start end p : ℕ) → end ≤ p → covers start end p ≡ false
 unfolding covers
 covers-above start end p a = ap (λ (t : Bool). leb start p && t) (le-ltb p end a) ∙ and-false (leb start p)
+
+-- two ranges from one start agree at p where p is below both ends or neither
+pub covers-agree : (start e₁ e₂ p : ℕ) → (start ≤ p → p < e₁ → p < e₂) → (start ≤ p → p < e₂ → p < e₁) → covers start e₁ p ≡ covers start e₂ p
+covers-agree start e₁ e₂ p a b = go (lt-or-le p start) (lt-or-le p e₁) (lt-or-le p e₂)
+  where
+    go : (p < start) ⊎ (start ≤ p) → (p < e₁) ⊎ (e₁ ≤ p) → (p < e₂) ⊎ (e₂ ≤ p) → covers start e₁ p ≡ covers start e₂ p
+    go (inl l) u v = covers-below start e₁ p l ∙ sym (covers-below start e₂ p l)
+    go (inr g) (inl l) v = covers-yes start e₁ p g l ∙ sym (covers-yes start e₂ p g (a g l))
+    go (inr g) (inr m) (inl l) = absurd (not-le-of-lt (b g l) m)
+    go (inr g) (inr m) (inr n) = covers-above start e₁ p m ∙ sym (covers-above start e₂ p n)
 
 -- ---- words
 

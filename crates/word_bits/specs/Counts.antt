@@ -1,5 +1,5 @@
--- Ones, and the zeros at both ends, among the first n places of f.
-use mathlib.Core.Bool.{Bool, cond}
+-- The first n places of a row f of yes and no: how many say yes, the zeros at both ends, whether some or all say yes.
+use mathlib.Core.Bool.{Bool, true, false, cond, _&&_, _||_}
 use Prim.Native.Nat.{ℕ, zero, suc, _+_}
 use Rattle.word_bits.specs.Digits.{one}
 
@@ -17,3 +17,12 @@ zerosBelow (suc n) f = cond (f 0) 0 (suc (zerosBelow n (λ j. f (suc j))))
 unfoldable pub zerosAbove : ℕ → (ℕ → Bool) → ℕ
 zerosAbove zero f = 0
 zerosAbove (suc n) f = cond (f n) 0 (suc (zerosAbove n f))
+
+-- some place, and each place, of the first n says yes
+unfoldable pub some : ℕ → (ℕ → Bool) → Bool
+some zero f = false
+some (suc n) f = some n f || f n
+
+unfoldable pub all : ℕ → (ℕ → Bool) → Bool
+all zero f = true
+all (suc n) f = all n f && f n

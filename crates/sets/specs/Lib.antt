@@ -1,0 +1,5 @@
+pub mod Blocks
+pub mod Members
+pub mod Questions
+pub mod Outcomes
+pub mod Calls
