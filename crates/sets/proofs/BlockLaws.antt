@@ -52,3 +52,17 @@ module _ (first end : ℕ) (f : ℕ → ℕ → ℕ) where
   swept-is vs ws e same =
       ext-getD 0 vs (swept first end f ws) (e ∙ sym (length-swept ws))
       (λ i h. let l : i < length ws = rw e at h in same i l ∙ sym (swept-at ws i l))
+
+-- another change that does the same to each word of the list
+pub swept-ext : (first end : ℕ) (f g : ℕ → ℕ → ℕ) (ws : List ℕ) → ((i : ℕ) → i < length ws → f i (getD ws i 0) ≡ g i (getD ws i 0))
+    → swept first end f ws ≡ swept first end g ws
+swept-ext first end f g ws same =
+    swept-is first end g (swept first end f ws) ws (length-swept first end f ws)
+    (λ i h. swept-at first end f ws i h ∙ ap (λ (x : ℕ). cond (covers first end i) x (getD ws i 0)) (same i h))
+
+-- a change of every word
+pub swept-all : (f : ℕ → ℕ → ℕ) (vs ws : List ℕ) → length vs ≡ length ws → ((i : ℕ) → i < length ws → getD vs i 0 ≡ f i (getD ws i 0))
+    → vs ≡ swept 0 (length ws) f ws
+swept-all f vs ws e same =
+    swept-is 0 (length ws) f vs ws e
+    (λ i h. same i h ∙ sym (ap (λ (t : Bool). cond t (f i (getD ws i 0)) (getD ws i 0)) (covers-yes 0 (length ws) i (omega arith) h)))

@@ -5,7 +5,7 @@ use mathlib.Core.List.{List}
 use mathlib.Core.Logic.{_⊎_, inl, inr}
 use Prim.Native.Nat.{ℕ, _*_, _≤_, _<_}
 use native.Mathlib.Omega.{arith}
-use borrow.Author.Tests.{le-leb, lt-leb, lt-ltb, le-ltb, eq-eqb, ne-eqb}
+use borrow.Author.Tests.{le-leb, lt-leb, lt-ltb, le-ltb, eq-eqb, ne-eqb, eqb-true, eqb-false}
 use lib.Dec.{leb, ltb, eqb}
 use lib.ListN.{length}
 use Rattle.word_bits.specs.Counts.{some}
@@ -21,6 +21,13 @@ first-no b {m} {a} e h = e ∙ sym (ap (λ (t : Bool). cond t b a) (ne-eqb a 0 (
 
 pub first-yes : {a b m : ℕ} → a ≡ 0 → m ≡ b → m ≡ first a b
 first-yes {a} {b} e f = f ∙ sym (ap (λ (t : Bool). cond t b a) (eq-eqb a 0 e))
+
+pub first-both : (a b : ℕ) → first a b ≡ 0 → (a ≡ 0) × (b ≡ 0)
+first-both a b e = go (eqb a 0) refl e
+  where
+    go : (t : Bool) → eqb a 0 ≡ t → cond t b a ≡ 0 → (a ≡ 0) × (b ≡ 0)
+    go true q z = (eqb-true a 0 q, z)
+    go false q z = absurd (eqb-false a 0 q z)
 
 -- a question is 0 where its test holds, and its number where it fails
 yes-of : {t : Bool} (n : ℕ) → t ≡ true → cond t 0 n ≡ 0

@@ -12,11 +12,11 @@ use Rattle.word_bits.specs.Digits.{digit}
 use Rattle.word_bits.proofs.Digits.{word-is}
 use Rattle.word_bits.proofs.Order.{lt-or-le}
 use Rattle.sets.specs.Members.{Members, wordsOf, bitOf, read, write, setOf, changed}
-use Rattle.sets.specs.Questions.{questions}
+use Rattle.sets.specs.Outcomes.{Outcome}
 use Rattle.sets.specs.declared.fixed_bit_set.FixedBitSet.{FixedBitSet}
 use Rattle.sets.proofs.WordLaws.{bit-at, within-words, words-hold}
 use Rattle.sets.proofs.WriteLaws.{Clipped, bit-write, length-write, write-is}
-use Rattle.sets.proofs.QuestionLaws.{Valid, valid-yes}
+use Rattle.sets.proofs.QuestionLaws.{Valid}
 
 pub read-len : (ws : List ℕ) (set : FixedBitSet) → read ws set .len ≡ set .length
 unfolding read
@@ -81,3 +81,11 @@ write-valid ws s c small room = record {
   enough = rw (length-write ws s room) room;
   clean = λ p l h. bit-write ws s p h ∙ c .above p l;
 }
+
+-- a change keeps the set's value: what an accepted one gives
+pub changed-outcome : (set : FixedBitSet) (ws : List ℕ) (here : ℕ → Bool) (f : Bool → Bool) {vs : List ℕ}
+    → vs ≡ write ws (changed here f (read ws set))
+    → _≡_ {A = Outcome} (record { number = 0; set = set; words = vs })
+    (record { number = 0; set = setOf (changed here f (read ws set)); words = write ws (changed here f (read ws set)) })
+unfolding changed read
+changed-outcome set ws here f e = ap (λ (w : List ℕ). record { number = 0; set = set; words = w }) e

@@ -22,3 +22,4 @@ pub use views::as_slice;
 pub use views::as_slice_number;
 pub use views::is_empty;
 pub use views::len;
+pub use views::member;

@@ -1,9 +1,11 @@
 use crate::answers::Counted;
 use crate::answers::Told;
+use crate::blocks::block;
 use crate::blocks::blocks_of;
 use crate::fixed_bit_set::FixedBitSet;
 use crate::questions::check;
 ghost use mathlib.Core.Path.{_≡_};
+ghost use Rattle.sets.specs.Members.{read};
 ghost use Rattle.sets.specs.Questions.{questions};
 ghost use Rattle.sets.specs.Calls.{lenRule, isEmptyRule, asSliceRule};
 
@@ -33,6 +35,17 @@ pub fn is_empty(set: FixedBitSet, words: &[u64]) -> Told
         number: 0,
         yes: set.length == 0,
     }
+}
+
+// Whether a position is a member, for any set and words: no question is asked.
+pub fn member(set: FixedBitSet, words: &[u64], p: usize) -> bool
+    ensures { λ r. ⌜ r ≡ read (now (words .entry)) set .has p ⌝ }
+{
+    if set.length <= p {
+        return false;
+    }
+    let rem = p % 64;
+    block(words, p / 64) & (1 << rem) != 0
 }
 
 // The words of the set, as a part of the lent slice.

@@ -1,0 +1,5 @@
+pub mod WordChanges
+pub mod PositionChanges
+pub mod GrowthLaws
+pub mod RangeChanges
+mod Examples

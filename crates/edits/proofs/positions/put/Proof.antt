@@ -1,0 +1,35 @@
+-- `edits::put` meets its contract. Assumes nothing.
+use mathlib.Core.Path.{sym, refl, ap₂, _∙_}
+use mathlib.Core.Bool.{Bool, false}
+use Rattle.sets.specs.Outcomes.{Outcome}
+use Rattle.sets.proofs.OutcomeLaws.{given-no, given-yes, given-number}
+use borrow.Author.Needs.{needs}
+use Rattle.edits.proofs.positions.put.Statement.{statement}
+use Rattle.edits.proofs.positions.put.Tie as tie
+
+member-requires : tie.Need-member-requires
+member-requires c κs = search needs
+
+change-position-requires : tie.Need-change-position-requires
+change-position-requires c κs = search needs
+
+same-length : tie.Need-same-length
+same-length c = search needs
+
+returns : tie.Need-returns
+returns c =
+    ap₂ (λ (o : Outcome) (w : Bool). record { edit = o; was = w }) (c .before .before .before .before .change-position .ensures)
+    (given-no (λ m. false) _ (given-number (λ (o : Outcome). o .number) _ _ _ (λ m. refl) refl (c .before .before .before .before .change-position .ensures)) (c .if1 .taken))
+
+same-length-2 : tie.Need-same-length-2
+same-length-2 c = search needs
+
+returns-2 : tie.Need-returns-2
+returns-2 c =
+    ap₂ (λ (o : Outcome) (w : Bool). record { edit = o; was = w }) (c .before .before .before .before .change-position .ensures)
+    (given-yes (λ m. false) (sym (c .if1 .left) ∙ given-number (λ (o : Outcome). o .number) _ _ _ (λ m. refl) refl (c .before .before .before .before .change-position .ensures)) (c .before .before .before .before .before .before .member .ensures))
+
+pub put-spec : {M : Type 1} → statement M
+put-spec =
+    tie.close
+    (tie.spec member-requires change-position-requires same-length returns same-length-2 returns-2)

@@ -1,0 +1,91 @@
+use crate::change::Change;
+use crate::change::assigning;
+use crate::change::change_block;
+use sets::Edited;
+use sets::FixedBitSet;
+use sets::ask_position;
+use sets::check;
+use sets::member;
+ghost use mathlib.Core.Path.{_≡_};
+ghost use lib.Dec.{eqb};
+ghost use Rattle.sets.specs.Members.{read, changed};
+ghost use Rattle.sets.specs.Outcomes.{outcome};
+ghost use Rattle.edits.specs.Changes.{effect};
+ghost use Rattle.edits.specs.Rules.{atPosition, insertRule, removeRule, toggleRule, setRule, copyBitRule, putOutcome, putRule};
+
+pub struct Replaced {
+    pub number: u64,
+    pub set: FixedBitSet,
+    pub was: bool,
+}
+
+pub(crate) fn change_position(
+    set: FixedBitSet,
+    words: &mut [u64],
+    bit: usize,
+    change: Change,
+) -> Edited
+    ensures { λ r. ⌜ outcome r (now (words .exit)) ≡ atPosition set bit (now (words .entry)) (changed (eqb bit) (effect change) (read (now (words .entry)) set)) ⌝ }
+{
+    let number = check(set, words);
+    if number != 0 {
+        return Edited { number, set };
+    }
+    let number = ask_position(set, bit);
+    if number != 0 {
+        return Edited { number, set };
+    }
+    let rem = bit % 64;
+    change_block(words, bit / 64, 1 << rem, change);
+    Edited { number: 0, set }
+}
+
+pub fn insert(set: FixedBitSet, words: &mut [u64], bit: usize) -> Edited
+    ensures { λ r. ⌜ outcome r (now (words .exit)) ≡ insertRule set bit (now (words .entry)) ⌝ }
+{
+    change_position(set, words, bit, Change::Insert)
+}
+
+pub fn remove(set: FixedBitSet, words: &mut [u64], bit: usize) -> Edited
+    ensures { λ r. ⌜ outcome r (now (words .exit)) ≡ removeRule set bit (now (words .entry)) ⌝ }
+{
+    change_position(set, words, bit, Change::Remove)
+}
+
+pub fn toggle(set: FixedBitSet, words: &mut [u64], bit: usize) -> Edited
+    ensures { λ r. ⌜ outcome r (now (words .exit)) ≡ toggleRule set bit (now (words .entry)) ⌝ }
+{
+    change_position(set, words, bit, Change::Toggle)
+}
+
+pub fn set(set: FixedBitSet, words: &mut [u64], bit: usize, enabled: bool) -> Edited
+    ensures { λ r. ⌜ outcome r (now (words .exit)) ≡ setRule set bit enabled (now (words .entry)) ⌝ }
+{
+    change_position(set, words, bit, assigning(enabled))
+}
+
+// Gives `to` the state that `from` had. A `from` at or above the length counts as no.
+pub fn copy_bit(set: FixedBitSet, words: &mut [u64], from: usize, to: usize) -> Edited
+    ensures { λ r. ⌜ outcome r (now (words .exit)) ≡ copyBitRule set from to (now (words .entry)) ⌝ }
+{
+    let enabled = member(set, words, from);
+    change_position(set, words, to, assigning(enabled))
+}
+
+// Inserts, and tells whether the position was a member.
+pub fn put(set: FixedBitSet, words: &mut [u64], bit: usize) -> Replaced
+    ensures { λ r. ⌜ putOutcome r (now (words .exit)) ≡ putRule set bit (now (words .entry)) ⌝ }
+{
+    let was = member(set, words, bit);
+    let edited = change_position(set, words, bit, Change::Insert);
+    let number = edited.number;
+    let set = edited.set;
+    if number != 0 {
+        return Replaced {
+            number,
+            set,
+            was: false,
+        };
+    }
+    Replaced { number, set, was }
+}
