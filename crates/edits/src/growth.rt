@@ -6,8 +6,8 @@ use sets::ask_new;
 use sets::blocks_of;
 use sets::change_blocks;
 use sets::check;
+use sets::larger;
 ghost use mathlib.Core.Path.{_≡_};
-ghost use Prim.Native.Nat.{max};
 ghost use Rattle.sets.specs.Outcomes.{outcome};
 ghost use Rattle.edits.specs.Rules.{clearRule, growRule, growAndInsertRule};
 
@@ -20,12 +20,6 @@ pub fn clear(set: FixedBitSet, words: &mut [u64]) -> Edited
     }
     change_blocks(words, 0, blocks_of(set.length), 0, 0);
     Edited { number: 0, set }
-}
-
-fn larger(a: usize, b: usize) -> usize
-    ensures { λ r. ⌜ r ≡ max a b ⌝ }
-{
-    if a < b { b } else { a }
 }
 
 // The words that the longer set takes in are overwritten, whatever the caller had there.

@@ -66,3 +66,13 @@ pub swept-all : (f : ℕ → ℕ → ℕ) (vs ws : List ℕ) → length vs ≡ l
 swept-all f vs ws e same =
     swept-is 0 (length ws) f vs ws e
     (λ i h. same i h ∙ sym (ap (λ (t : Bool). cond t (f i (getD ws i 0)) (getD ws i 0)) (covers-yes 0 (length ws) i (omega arith) h)))
+
+-- a change that changes nothing
+pub swept-same : (first end : ℕ) (f : ℕ → ℕ → ℕ) (ws : List ℕ) → ((i : ℕ) → i < length ws → getD ws i 0 ≡ f i (getD ws i 0))
+    → ws ≡ swept first end f ws
+swept-same first end f ws same =
+    swept-is first end f ws ws refl (λ i h. sym (either (covers first end i)) ∙ ap (λ (x : ℕ). cond (covers first end i) x (getD ws i 0)) (same i h))
+  where
+    either : (t : Bool) {x : ℕ} → cond t x x ≡ x
+    either true = refl
+    either false = refl

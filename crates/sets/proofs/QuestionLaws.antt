@@ -141,3 +141,8 @@ module _ (n : ℕ) (ws : List ℕ) where
       go (inl a) w = absurd (omega (arith, question-6 a))
       go (inr a) (inl b) = absurd (omega (arith, question-7 a b))
       go (inr a) (inr b) = record { small = a; enough = b }
+
+  -- a length that question 1 has passed is asked 7 alone
+  pub room-only : n ≤ 65536 → newQuestions n ws ≡ roomQuestion n ws
+  unfolding newLengthQuestion
+  room-only h = rw (yes-of 6 (le-leb n 65536 h))

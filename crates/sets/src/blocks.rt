@@ -1,5 +1,5 @@
 ghost use mathlib.Core.Path.{_≡_};
-ghost use Prim.Native.Nat.{ℕ, _≤_, min};
+ghost use Prim.Native.Nat.{ℕ, _≤_, max, min};
 ghost use lib.Bits.{bitAnd, bitXor};
 ghost use lib.ListN.{length, getD};
 ghost use Rattle.sets.specs.Blocks.{swept};
@@ -13,10 +13,16 @@ pub fn blocks_of(length: usize) -> usize
     if length % 64 == 0 { blocks } else { blocks + 1 }
 }
 
-pub(crate) fn lesser(a: usize, b: usize) -> usize
+pub fn lesser(a: usize, b: usize) -> usize
     ensures { λ r. ⌜ r ≡ min a b ⌝ }
 {
     if a < b { a } else { b }
+}
+
+pub fn larger(a: usize, b: usize) -> usize
+    ensures { λ r. ⌜ r ≡ max a b ⌝ }
+{
+    if a < b { b } else { a }
 }
 
 // Word k of a slice, 0 past its end.

@@ -12,6 +12,8 @@ pub use answers::Told;
 pub use blocks::block;
 pub use blocks::blocks_of;
 pub use blocks::change_blocks;
+pub use blocks::larger;
+pub use blocks::lesser;
 pub use fixed_bit_set::FixedBitSet;
 pub use fresh::with_capacity;
 pub use fresh::with_capacity_and_blocks;

@@ -1,0 +1,4 @@
+pub mod Queries
+pub mod Found
+pub mod Words
+pub mod Rules

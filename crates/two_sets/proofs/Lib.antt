@@ -1,0 +1,5 @@
+pub mod WordJoins
+pub mod BlockJoins
+pub mod MemberJoins
+pub mod SetJoins
+mod Examples

@@ -1,0 +1,52 @@
+-- Joined words are those of the joined members. Assumes nothing.
+use mathlib.Core.Path.{_≡_, refl, sym, ap, ap₂, _∙_}
+use mathlib.Core.Bool.{Bool}
+use mathlib.Core.List.{List}
+use mathlib.Core.Logic.{_⊎_, inl, inr}
+use Prim.Native.Nat.{ℕ, _+_, _*_, _≤_, _<_, max}
+use native.Mathlib.Omega.{arith}
+use lib.ListN.{length, getD}
+use Rattle.word_bits.specs.Digits.{digit}
+use Rattle.word_bits.proofs.Digits.{digit-of-zero, word-is}
+use Rattle.word_bits.proofs.Order.{lt-or-le}
+use Rattle.masks.proofs.RangeLaws.{covers-above}
+use Rattle.sets.specs.Blocks.{swept}
+use Rattle.sets.specs.Members.{wordsOf, read, write}
+use Rattle.sets.specs.declared.fixed_bit_set.FixedBitSet.{FixedBitSet}
+use Rattle.sets.proofs.BlockLaws.{length-swept, swept-in, swept-out}
+use Rattle.sets.proofs.QuestionLaws.{Valid}
+use Rattle.sets.proofs.ReadLaws.{read-digit, read-above}
+use Rattle.sets.proofs.WordLaws.{words-hold}
+use Rattle.sets.proofs.WriteLaws.{write-is}
+use Rattle.two_sets.specs.Members.{combined}
+use Rattle.two_sets.specs.Operations.{joined, joinedWord, padded}
+use Rattle.two_sets.specs.declared.operation.Operation.{Operation}
+use Rattle.two_sets.proofs.BlockJoins.{padded-in, padded-out}
+use Rattle.two_sets.proofs.WordJoins.{joined-digit, joined-lt}
+
+-- the digits of a set's word, 0 past its words, are its members
+pub padded-digit : (a : FixedBitSet) (ws : List ℕ) → Valid a ws → (k j : ℕ) → j < 64
+    → digit (padded (wordsOf (a .length)) ws k) j ≡ read ws a .has (k * 64 + j)
+padded-digit a ws v k j h = go (lt-or-le k (wordsOf (a .length)))
+  where
+    go : (k < wordsOf (a .length)) ⊎ (wordsOf (a .length) ≤ k) → digit (padded (wordsOf (a .length)) ws k) j ≡ read ws a .has (k * 64 + j)
+    go (inl l) = ap (λ (x : ℕ). digit x j) (padded-in (wordsOf (a .length)) ws k l) ∙ sym (read-digit a ws v k j l h)
+    go (inr g) =
+        ap (λ (x : ℕ). digit x j) (padded-out (wordsOf (a .length)) ws k g) ∙ digit-of-zero j
+        ∙ sym (read-above ws a (k * 64 + j) (omega (arith, words-hold (a .length) .0)))
+
+pub joined-write : (op : Operation) (a : FixedBitSet) (ws : List ℕ) (b : FixedBitSet) (vs : List ℕ) → Valid a ws → Valid b vs
+    → (n : ℕ) (out : List ℕ) → wordsOf n ≤ length out
+    → swept 0 (wordsOf n) (λ k w. joinedWord op (padded (wordsOf (a .length)) ws k) (padded (wordsOf (b .length)) vs k)) out
+    ≡ write out (combined op n (read ws a) (read vs b))
+unfolding combined
+joined-write op a ws b vs va vb n out room =
+    write-is out (combined op n (read ws a) (read vs b)) _ room (length-swept 0 (wordsOf n) f out)
+    (λ k h. swept-in 0 (wordsOf n) f out k (omega arith) (omega arith) h
+    ∙ word-is (combined op n (read ws a) (read vs b) .has) k (f k (getD out k 0)) (joined-lt op (padded (wordsOf (a .length)) ws k) (padded (wordsOf (b .length)) vs k))
+    (λ j l. joined-digit op (padded (wordsOf (a .length)) ws k) (padded (wordsOf (b .length)) vs k) j l
+    ∙ ap₂ (joined op) (padded-digit a ws va k j l) (padded-digit b vs vb k j l)))
+    (λ k h. swept-out 0 (wordsOf n) f out k (covers-above 0 (wordsOf n) k h))
+  where
+    f : ℕ → ℕ → ℕ
+    f k w = joinedWord op (padded (wordsOf (a .length)) ws k) (padded (wordsOf (b .length)) vs k)

@@ -1,0 +1,64 @@
+-- The three parts of a join, in place and into a third buffer, and what both sets' questions tell. Assumes nothing.
+use mathlib.Core.Path.{_≡_, refl, sym, ap, ap₂, _∙_}
+use mathlib.Core.List.{List}
+use Prim.Native.Nat.{ℕ, _≤_, _<_, min, max}
+use native.Mathlib.Omega.{arith}
+use lib.ListN.{length, getD}
+use Rattle.sets.specs.Blocks.{swept}
+use Rattle.sets.specs.Questions.{questions}
+use Rattle.sets.specs.declared.fixed_bit_set.FixedBitSet.{FixedBitSet}
+use Rattle.sets.proofs.QuestionLaws.{Valid, valid, first-both}
+use Rattle.two_sets.specs.Operations.{joinedWord, padded}
+use Rattle.two_sets.specs.Rules.{bothQuestions}
+use Rattle.two_sets.specs.declared.operation.Operation.{Operation}
+use Rattle.two_sets.proofs.BlockJoins.{padded-in, padded-out, three-sweeps}
+
+module _ (op : Operation) (blocks others total : ℕ) (ws vs : List ℕ) where
+  -- word k of the result
+  abbrev pub target : ℕ → ℕ
+  target k = joinedWord op (padded blocks ws k) (padded others vs k)
+
+  both-have : (k : ℕ) → k < blocks → k < others → joinedWord op (getD ws k 0) (getD vs k 0) ≡ target k
+  both-have k a b = ap₂ (joinedWord op) (sym (padded-in blocks ws k a)) (sym (padded-in others vs k b))
+
+  first-has : (k : ℕ) → k < blocks → others ≤ k → joinedWord op (getD ws k 0) 0 ≡ target k
+  first-has k a b = ap₂ (joinedWord op) (sym (padded-in blocks ws k a)) (sym (padded-out others vs k b))
+
+  second-has : (k : ℕ) → blocks ≤ k → k < others → joinedWord op 0 (getD vs k 0) ≡ target k
+  second-has k a b = ap₂ (joinedWord op) (sym (padded-out blocks ws k a)) (sym (padded-in others vs k b))
+
+  module _ (below : total ≤ max blocks others) (hb : others ≤ length vs) where
+    pub joined-in-place : blocks ≤ total → total ≤ length ws
+        → swept blocks (min total (length vs)) (λ k w. joinedWord op 0 (getD vs k 0))
+        (swept (min blocks others) blocks (λ k w. joinedWord op w 0)
+        (swept 0 (min (min blocks others) (length vs)) (λ k w. joinedWord op w (getD vs k 0)) ws))
+        ≡ swept 0 total (λ k w. target k) ws
+    joined-in-place le room =
+        let same : min (min blocks others) (length vs) ≡ min blocks others = omega arith in
+        rw same
+        (three-sweeps (min blocks others) blocks blocks (min total (length vs)) total
+        (λ k w. joinedWord op w (getD vs k 0)) (λ k w. joinedWord op w 0) (λ k w. joinedWord op 0 (getD vs k 0)) target ws
+        room (omega arith) (omega arith) (omega arith) le (omega arith) (λ i a b d. (omega arith, omega arith))
+        (λ i a. both-have i (omega arith) (omega arith)) (λ i a b. first-has i b (omega arith)) (λ i a b. second-has i a (omega arith)))
+
+    pub joined-into : (out : List ℕ) → total ≤ length out → blocks ≤ length ws
+        → swept blocks (min total (length vs)) (λ k w. joinedWord op 0 (getD vs k 0))
+        (swept (min (min blocks others) total) (min (min blocks total) (length ws)) (λ k w. joinedWord op (getD ws k 0) 0)
+        (swept 0 (min (min blocks others) total) (λ k w. joinedWord op (getD ws k 0) (getD vs k 0)) out))
+        ≡ swept 0 total (λ k w. target k) out
+    joined-into out room ha =
+        three-sweeps (min (min blocks others) total) (min (min blocks total) (length ws)) blocks (min total (length vs)) total
+        (λ k w. joinedWord op (getD ws k 0) (getD vs k 0)) (λ k w. joinedWord op (getD ws k 0) 0) (λ k w. joinedWord op 0 (getD vs k 0)) target out
+        room (omega arith) (omega arith) (omega arith) (omega arith) (omega arith) (λ i a b d. (omega arith, omega arith))
+        (λ i a. both-have i (omega arith) (omega arith)) (λ i a b. first-has i (omega arith) (omega arith)) (λ i a b. second-has i a (omega arith))
+
+-- both sets pass questions 1 to 3
+pub record BothValid (a : FixedBitSet) (ws : List ℕ) (b : FixedBitSet) (vs : List ℕ) : Type 0 where
+  pub one : Valid a ws
+  pub two : Valid b vs
+
+pub both-valid : (a : FixedBitSet) (ws : List ℕ) (b : FixedBitSet) (vs : List ℕ) → bothQuestions a ws b vs ≡ 0 → BothValid a ws b vs
+unfolding bothQuestions
+both-valid a ws b vs e =
+    let q = first-both (questions a ws) (questions b vs) e in
+    record { one = valid a ws (q .0); two = valid b vs (q .1) }

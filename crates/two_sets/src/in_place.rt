@@ -1,0 +1,128 @@
+use crate::join::join_common;
+use crate::join::join_first_alone;
+use crate::join::join_second_alone;
+use crate::operation::Operation;
+use sets::Edited;
+use sets::FixedBitSet;
+use sets::ask_new;
+use sets::blocks_of;
+use sets::check;
+use sets::larger;
+use sets::lesser;
+ghost use mathlib.Core.Path.{_≡_};
+ghost use Prim.Native.Nat.{ℕ, _≤_, max};
+ghost use lib.ListN.{length};
+ghost use Rattle.sets.specs.Blocks.{swept};
+ghost use Rattle.sets.specs.Members.{read};
+ghost use Rattle.sets.specs.Outcomes.{outcome, edited};
+ghost use Rattle.two_sets.specs.Operations.{joinedWord, padded};
+ghost use Rattle.two_sets.specs.Members.{growing, keeping};
+ghost use Rattle.two_sets.specs.Rules.{bothQuestions, growingQuestions, unionWithRule, symmetricDifferenceWithRule, intersectWithRule, differenceWithRule};
+
+// Questions 1 to 3 of the first set, then of the second.
+pub fn check_both(a: FixedBitSet, words: &[u64], b: FixedBitSet, other: &[u64]) -> u64
+    ensures { λ r. ⌜ r ≡ bothQuestions a (now (words .entry)) b (now (other .entry)) ⌝ }
+{
+    let number = check(a, words);
+    if number != 0 {
+        return number;
+    }
+    check(b, other)
+}
+
+// The words of a result of `total` words, from the first set's `blocks` words and the second's `others`.
+fn join_in_place(
+    words: &mut [u64],
+    blocks: usize,
+    other: &[u64],
+    others: usize,
+    total: usize,
+    operation: Operation,
+)
+    requires { ⌜ (blocks ≤ total) × (total ≤ max blocks others) × (total ≤ length (now words)) × (others ≤ length (now other)) ⌝ }
+    ensures { λ r. ⌜ now (words .exit) ≡ swept 0 total (λ (k w : ℕ). joinedWord operation (padded blocks (now (words .entry)) k) (padded others (now (other .entry)) k)) (now (words .entry)) ⌝ }
+{
+    let common = lesser(blocks, others);
+    join_common(words, other, common, operation);
+    join_first_alone(words, common, blocks, operation);
+    join_second_alone(words, other, blocks, total, operation);
+}
+
+fn keep_with(
+    a: FixedBitSet,
+    words: &mut [u64],
+    b: FixedBitSet,
+    other: &[u64],
+    operation: Operation,
+) -> Edited
+    ensures { λ r. ⌜ outcome r (now (words .exit)) ≡ edited (bothQuestions a (now (words .entry)) b (now (other .entry))) a (now (words .entry)) (keeping operation (read (now (words .entry)) a) (read (now (other .entry)) b)) ⌝ }
+{
+    let number = check_both(a, words, b, other);
+    if number != 0 {
+        return Edited { number, set: a };
+    }
+    let blocks = blocks_of(a.length);
+    join_in_place(words, blocks, other, blocks_of(b.length), blocks, operation);
+    Edited { number: 0, set: a }
+}
+
+fn grow_with(
+    a: FixedBitSet,
+    words: &mut [u64],
+    b: FixedBitSet,
+    other: &[u64],
+    operation: Operation,
+) -> Edited
+    ensures { λ r. ⌜ outcome r (now (words .exit)) ≡ edited (growingQuestions a (now (words .entry)) b (now (other .entry))) a (now (words .entry)) (growing operation (read (now (words .entry)) a) (read (now (other .entry)) b)) ⌝ }
+{
+    let number = check_both(a, words, b, other);
+    if number != 0 {
+        return Edited { number, set: a };
+    }
+    let length = larger(a.length, b.length);
+    let number = ask_new(length, words);
+    if number != 0 {
+        return Edited { number, set: a };
+    }
+    join_in_place(
+        words,
+        blocks_of(a.length),
+        other,
+        blocks_of(b.length),
+        blocks_of(length),
+        operation,
+    );
+    Edited {
+        number: 0,
+        set: FixedBitSet::new(length),
+    }
+}
+
+pub fn union_with(a: FixedBitSet, words: &mut [u64], b: FixedBitSet, other: &[u64]) -> Edited
+    ensures { λ r. ⌜ outcome r (now (words .exit)) ≡ unionWithRule a (now (words .entry)) b (now (other .entry)) ⌝ }
+{
+    grow_with(a, words, b, other, Operation::Union)
+}
+
+pub fn symmetric_difference_with(
+    a: FixedBitSet,
+    words: &mut [u64],
+    b: FixedBitSet,
+    other: &[u64],
+) -> Edited
+    ensures { λ r. ⌜ outcome r (now (words .exit)) ≡ symmetricDifferenceWithRule a (now (words .entry)) b (now (other .entry)) ⌝ }
+{
+    grow_with(a, words, b, other, Operation::SymmetricDifference)
+}
+
+pub fn intersect_with(a: FixedBitSet, words: &mut [u64], b: FixedBitSet, other: &[u64]) -> Edited
+    ensures { λ r. ⌜ outcome r (now (words .exit)) ≡ intersectWithRule a (now (words .entry)) b (now (other .entry)) ⌝ }
+{
+    keep_with(a, words, b, other, Operation::Intersection)
+}
+
+pub fn difference_with(a: FixedBitSet, words: &mut [u64], b: FixedBitSet, other: &[u64]) -> Edited
+    ensures { λ r. ⌜ outcome r (now (words .exit)) ≡ differenceWithRule a (now (words .entry)) b (now (other .entry)) ⌝ }
+{
+    keep_with(a, words, b, other, Operation::Difference)
+}

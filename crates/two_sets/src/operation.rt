@@ -1,0 +1,7 @@
+// What two bits make.
+pub enum Operation {
+    Union,
+    Intersection,
+    Difference,
+    SymmetricDifference,
+}
