@@ -1,4 +1,3 @@
-pub mod WordChanges
 pub mod PositionChanges
 pub mod GrowthLaws
 pub mod RangeChanges

@@ -1,5 +1,5 @@
-use crate::change::Change;
-use crate::change::change_block;
+use changes::Change;
+use changes::change_block;
 use sets::Edited;
 use sets::FixedBitSet;
 use sets::ask_new;

@@ -1,5 +1,4 @@
 // Edits of one set: of a position, of a range, of the whole set, and growth.
-mod change;
 mod growth;
 mod positions;
 mod ranges;

@@ -10,9 +10,9 @@ use Rattle.sets.specs.Outcomes.{Outcome}
 use Rattle.sets.specs.declared.fixed_bit_set.FixedBitSet.{FixedBitSet}
 use Rattle.sets.proofs.OutcomeLaws.{given-no, given-yes, given-refused, given-accepted}
 use Rattle.sets.proofs.QuestionLaws.{first-no, first-yes, first-both, valid, room, question-6}
-use Rattle.edits.specs.Changes.{changedWord}
+use Rattle.changes.specs.Changes.{changedWord}
 use Rattle.edits.specs.Edits.{grown}
-use Rattle.edits.specs.declared.change.Change.the-variants.{Insert}
+use Rattle.changes.specs.declared.change.Change.the-variants.{Insert}
 use Rattle.edits.proofs.GrowthLaws.{grown-inserted}
 use borrow.Author.Needs.{needs}
 use native.Mathlib.Omega.{arith}

@@ -1,13 +1,13 @@
--- `edits::ranges::change_covered` meets its contract. Assumes nothing.
+-- `changes::change_covered` meets its contract. Assumes nothing.
 use mathlib.Core.Path.{_≡_, ap, _∙_}
 use Prim.Native.Nat.{_<_, _≤_, _+_, _-_, _/_}
 use denote.Ref.{now}
 use Rattle.masks.specs.Ranges.{endBlock}
-use Rattle.edits.proofs.RangeChanges.{no-word, one-word, many-words}
+use Rattle.changes.proofs.BlockChanges.{no-word, one-word, many-words}
 use borrow.Author.Needs.{needs}
 use native.Mathlib.Omega.{arith}
-use Rattle.edits.proofs.ranges.change_covered.Statement.{statement}
-use Rattle.edits.proofs.ranges.change_covered.Tie as tie
+use Rattle.changes.proofs.covered.change_covered.Statement.{statement}
+use Rattle.changes.proofs.covered.change_covered.Tie as tie
 
 new-requires : tie.Need-new-requires
 new-requires c κs = search needs

@@ -4,7 +4,7 @@ ghost use mathlib.Core.Bool.{Bool};
 ghost use Prim.Native.Nat.{ℕ, _-_, _^_};
 ghost use lib.ListN.{getD, set as setAt};
 ghost use Rattle.sets.specs.Blocks.{swept};
-ghost use Rattle.edits.specs.Changes.{effect, changedWord};
+ghost use Rattle.changes.specs.Changes.{effect, changedWord};
 
 // What happens to each bit that an edit names.
 pub enum Change {
@@ -14,7 +14,7 @@ pub enum Change {
 }
 
 // Insert for yes, Remove for no.
-pub(crate) fn assigning(enabled: bool) -> Change
+pub fn assigning(enabled: bool) -> Change
     ensures { λ r. ⌜ effect r ≡ (λ (was : Bool). enabled) ⌝ }
 {
     if enabled {
@@ -35,7 +35,7 @@ pub(crate) fn change_word(word: u64, mask: u64, change: Change) -> u64
 }
 
 // Word k, where the slice has it.
-pub(crate) fn change_block(words: &mut [u64], k: usize, mask: u64, change: Change)
+pub fn change_block(words: &mut [u64], k: usize, mask: u64, change: Change)
     ensures { λ r. ⌜ now (words .exit) ≡ setAt (now (words .entry)) k (changedWord change mask (getD (now (words .entry)) k 0)) ⌝ }
 {
     if k < words.len() {

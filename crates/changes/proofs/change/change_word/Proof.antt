@@ -1,8 +1,8 @@
--- `edits::change::change_word` meets its contract. Assumes nothing.
-use Rattle.edits.proofs.WordChanges.{insert-word, remove-word, toggle-word}
+-- `changes::change_word` meets its contract. Assumes nothing.
+use Rattle.changes.proofs.WordChanges.{insert-word, remove-word, toggle-word}
 use borrow.Author.Needs.{needs}
-use Rattle.edits.proofs.change.change_word.Statement.{statement}
-use Rattle.edits.proofs.change.change_word.Tie as tie
+use Rattle.changes.proofs.change.change_word.Statement.{statement}
+use Rattle.changes.proofs.change.change_word.Tie as tie
 
 enum-told : tie.Need-enum-told
 enum-told c = search needs

@@ -1,12 +1,12 @@
--- `edits::change::change_whole` meets its contract. Assumes nothing.
+-- `changes::change_whole` meets its contract. Assumes nothing.
 use mathlib.Core.Path.{_∙_}
 use denote.Ref.{now}
 use lib.ListN.{getD}
 use Rattle.sets.proofs.BlockLaws.{swept-ext}
-use Rattle.edits.proofs.WordChanges.{whole-insert, whole-remove, whole-toggle}
+use Rattle.changes.proofs.WordChanges.{whole-insert, whole-remove, whole-toggle}
 use borrow.Author.Needs.{needs}
-use Rattle.edits.proofs.change.change_whole.Statement.{statement}
-use Rattle.edits.proofs.change.change_whole.Tie as tie
+use Rattle.changes.proofs.change.change_whole.Statement.{statement}
+use Rattle.changes.proofs.change.change_whole.Tie as tie
 
 enum-told : tie.Need-enum-told
 enum-told c = search needs

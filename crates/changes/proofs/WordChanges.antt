@@ -8,9 +8,9 @@ use lib.Pow.{ones-sub-lt}
 use Rattle.word_bits.specs.Digits.{digit}
 use Rattle.word_bits.proofs.Digits.{digit-number, number-is, number-lt, digit-of-zero}
 use Rattle.word_bits.proofs.Operations.{digit-and, digit-or, digit-xor, digit-not}
-use Rattle.edits.specs.Changes.{effect, changedWord}
-use Rattle.edits.specs.declared.change.Change.{Change}
-use Rattle.edits.specs.declared.change.Change.the-variants.{Insert, Remove, Toggle}
+use Rattle.changes.specs.Changes.{effect, changedWord}
+use Rattle.changes.specs.declared.change.Change.{Change}
+use Rattle.changes.specs.declared.change.Change.the-variants.{Insert, Remove, Toggle}
 
 module _ (change : Change) (mask word : ℕ) where
   pub changed-lt : changedWord change mask word < 2 ^ 64

@@ -2,8 +2,8 @@
 use mathlib.Core.Bool.{Bool, true, false, not, cond}
 use Prim.Native.Nat.{ℕ}
 use Rattle.word_bits.specs.Digits.{digit, number}
-use Rattle.edits.specs.declared.change.Change.{Change}
-use Rattle.edits.specs.declared.change.Change.the-variants.{Insert, Remove, Toggle}
+use Rattle.changes.specs.declared.change.Change.{Change}
+use Rattle.changes.specs.declared.change.Change.the-variants.{Insert, Remove, Toggle}
 
 -- a bit after the change
 abbrev pub effect : Change → Bool → Bool

@@ -1,12 +1,12 @@
--- `edits::change::change_block` meets its contract. Assumes nothing.
+-- `changes::change_block` meets its contract. Assumes nothing.
 use mathlib.Core.Path.{sym, ap, _∙_}
 use Prim.Native.Nat.{ℕ}
 use denote.Ref.{now}
 use lib.ListN.{set as setAt}
 use lib.Seq.{set-out}
 use borrow.Author.Needs.{needs}
-use Rattle.edits.proofs.change.change_block.Statement.{statement}
-use Rattle.edits.proofs.change.change_block.Tie as tie
+use Rattle.changes.proofs.change.change_block.Statement.{statement}
+use Rattle.changes.proofs.change.change_block.Tie as tie
 
 mul-change-word : tie.Need-mul-change-word
 mul-change-word c = search needs

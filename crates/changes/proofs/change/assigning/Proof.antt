@@ -1,7 +1,7 @@
--- `edits::change::assigning` meets its contract. Assumes nothing.
+-- `changes::assigning` meets its contract. Assumes nothing.
 use mathlib.Core.Path.{refl, sym, fun-ext}
-use Rattle.edits.proofs.change.assigning.Statement.{statement}
-use Rattle.edits.proofs.change.assigning.Tie as tie
+use Rattle.changes.proofs.change.assigning.Statement.{statement}
+use Rattle.changes.proofs.change.assigning.Tie as tie
 
 returns : tie.Need-returns
 returns c = fun-ext (λ was. sym (c .if1 .taken))

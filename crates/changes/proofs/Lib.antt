@@ -1,0 +1,2 @@
+pub mod WordChanges
+pub mod BlockChanges
