@@ -1,4 +1,2 @@
 pub mod PositionChanges
-pub mod GrowthLaws
-pub mod RangeChanges
 mod Examples

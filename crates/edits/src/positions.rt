@@ -19,12 +19,7 @@ pub struct Replaced {
     pub was: bool,
 }
 
-pub(crate) fn change_position(
-    set: FixedBitSet,
-    words: &mut [u64],
-    bit: usize,
-    change: Change,
-) -> Edited
+fn change_position(set: FixedBitSet, words: &mut [u64], bit: usize, change: Change) -> Edited
     ensures { λ r. ⌜ outcome r (now (words .exit)) ≡ atPosition set bit (now (words .entry)) (changed (eqb bit) (effect change) (read (now (words .entry)) set)) ⌝ }
 {
     let number = check(set, words);

@@ -1,4 +1,4 @@
--- `edits::clear` meets its contract. Assumes nothing.
+-- `growth::clear` meets its contract. Assumes nothing.
 use mathlib.Core.Path.{_≡_, sym, ap, _∙_}
 use Prim.Native.Nat.{ℕ}
 use denote.Ref.{now}
@@ -8,10 +8,10 @@ use Rattle.sets.proofs.OutcomeLaws.{given-no, given-yes}
 use Rattle.sets.proofs.QuestionLaws.{valid}
 use Rattle.sets.proofs.FreshLaws.{zeroed}
 use Rattle.sets.proofs.ReadLaws.{changed-outcome}
-use Rattle.edits.proofs.GrowthLaws.{cleared-write}
+use Rattle.growth.proofs.GrowthLaws.{cleared-write}
 use borrow.Author.Needs.{needs}
-use Rattle.edits.proofs.growth.clear.Statement.{statement}
-use Rattle.edits.proofs.growth.clear.Tie as tie
+use Rattle.growth.proofs.resize.clear.Statement.{statement}
+use Rattle.growth.proofs.resize.clear.Tie as tie
 
 check-requires : tie.Need-check-requires
 check-requires c κs = search needs

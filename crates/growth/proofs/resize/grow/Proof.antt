@@ -1,4 +1,4 @@
--- `edits::grow` meets its contract. Assumes nothing.
+-- `growth::grow` meets its contract. Assumes nothing.
 use mathlib.Core.Path.{_≡_, sym, ap, ap₂, _∙_}
 use mathlib.Core.List.{List}
 use Prim.Native.Nat.{ℕ, max}
@@ -10,11 +10,11 @@ use Rattle.sets.specs.declared.fixed_bit_set.FixedBitSet.{FixedBitSet}
 use Rattle.sets.proofs.OutcomeLaws.{given-no, given-yes}
 use Rattle.sets.proofs.QuestionLaws.{first-no, first-yes, valid, room}
 use Rattle.sets.proofs.FreshLaws.{zeroed}
 use Rattle.edits.specs.Edits.{grown}
-use Rattle.edits.proofs.GrowthLaws.{grown-write}
+use Rattle.growth.proofs.GrowthLaws.{grown-write}
 use borrow.Author.Needs.{needs}
-use Rattle.edits.proofs.growth.grow.Statement.{statement}
-use Rattle.edits.proofs.growth.grow.Tie as tie
+use Rattle.growth.proofs.resize.grow.Statement.{statement}
+use Rattle.growth.proofs.resize.grow.Tie as tie
 
 check-requires : tie.Need-check-requires
 check-requires c κs = search needs

@@ -1,4 +1,4 @@
--- `edits::ranges::change_range` meets its contract. Assumes nothing.
+-- `range_edits::change_range` meets its contract. Assumes nothing.
 use mathlib.Core.Path.{_≡_, sym, _∙_}
 use Prim.Native.Nat.{ℕ}
 use denote.Ref.{now}
@@ -7,10 +7,10 @@ use Rattle.sets.specs.Questions.{questions}
 use Rattle.sets.proofs.OutcomeLaws.{given-no, given-yes}
 use Rattle.sets.proofs.QuestionLaws.{first-no, first-yes, valid}
 use Rattle.sets.proofs.ReadLaws.{changed-outcome}
-use Rattle.edits.proofs.RangeChanges.{range-write}
+use Rattle.range_edits.proofs.RangeChanges.{range-write}
 use borrow.Author.Needs.{needs}
-use Rattle.edits.proofs.ranges.change_range.Statement.{statement}
-use Rattle.edits.proofs.ranges.change_range.Tie as tie
+use Rattle.range_edits.proofs.ranges.change_range.Statement.{statement}
+use Rattle.range_edits.proofs.ranges.change_range.Tie as tie
 
 check-requires : tie.Need-check-requires
 check-requires c κs = search needs

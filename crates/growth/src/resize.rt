@@ -9,7 +9,7 @@ use sets::check;
 use sets::larger;
 ghost use mathlib.Core.Path.{_≡_};
 ghost use Rattle.sets.specs.Outcomes.{outcome};
-ghost use Rattle.edits.specs.Rules.{clearRule, growRule, growAndInsertRule};
+ghost use Rattle.growth.specs.Rules.{clearRule, growRule, growAndInsertRule};
 
 pub fn clear(set: FixedBitSet, words: &mut [u64]) -> Edited
     ensures { λ r. ⌜ outcome r (now (words .exit)) ≡ clearRule set (now (words .entry)) ⌝ }

@@ -1,13 +1,13 @@
--- `edits::set_range` meets its contract. Assumes nothing.
+-- `range_edits::set_range` meets its contract. Assumes nothing.
 use mathlib.Core.Path.{ap, _∙_}
 use mathlib.Core.Bool.{Bool}
 use denote.Ref.{now}
 use Rattle.masks.specs.Ranges.{covers}
 use Rattle.sets.specs.Members.{read, changed}
-use Rattle.edits.specs.Rules.{overRange}
+use Rattle.range_edits.specs.Rules.{overRange}
 use borrow.Author.Needs.{needs}
-use Rattle.edits.proofs.ranges.set_range.Statement.{statement}
-use Rattle.edits.proofs.ranges.set_range.Tie as tie
+use Rattle.range_edits.proofs.ranges.set_range.Statement.{statement}
+use Rattle.range_edits.proofs.ranges.set_range.Tie as tie
 
 assigning-requires : tie.Need-assigning-requires
 assigning-requires c κs = search needs

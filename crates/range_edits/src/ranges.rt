@@ -10,9 +10,9 @@ ghost use Rattle.masks.specs.Ranges.{covers};
 ghost use Rattle.sets.specs.Members.{read, changed};
 ghost use Rattle.sets.specs.Outcomes.{outcome};
 ghost use Rattle.changes.specs.Changes.{effect};
-ghost use Rattle.edits.specs.Rules.{overRange, insertRangeRule, removeRangeRule, toggleRangeRule, setRangeRule};
+ghost use Rattle.range_edits.specs.Rules.{overRange, insertRangeRule, removeRangeRule, toggleRangeRule, setRangeRule};
 
-pub(crate) fn change_range(
+fn change_range(
     set: FixedBitSet,
     words: &mut [u64],
     start: usize,

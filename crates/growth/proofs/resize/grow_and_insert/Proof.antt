@@ -1,4 +1,4 @@
--- `edits::grow_and_insert` meets its contract. Assumes nothing.
+-- `growth::grow_and_insert` meets its contract. Assumes nothing.
 use mathlib.Core.Path.{_≡_, refl, sym, ap, ap₂, _∙_}
 use mathlib.Core.List.{List}
 use Prim.Native.Nat.{ℕ, _+_, _/_, _%_, max}
@@ -11,13 +11,13 @@ use Rattle.sets.specs.declared.fixed_bit_set.FixedBitSet.{FixedBitSet}
 use Rattle.sets.proofs.OutcomeLaws.{given-no, given-yes, given-refused, given-accepted}
 use Rattle.sets.proofs.QuestionLaws.{first-no, first-yes, first-both, valid, room, question-6}
 use Rattle.changes.specs.Changes.{changedWord}
 use Rattle.edits.specs.Edits.{grown}
 use Rattle.changes.specs.declared.change.Change.the-variants.{Insert}
-use Rattle.edits.proofs.GrowthLaws.{grown-inserted}
+use Rattle.growth.proofs.GrowthLaws.{grown-inserted}
 use borrow.Author.Needs.{needs}
 use native.Mathlib.Omega.{arith}
-use Rattle.edits.proofs.growth.grow_and_insert.Statement.{statement}
-use Rattle.edits.proofs.growth.grow_and_insert.Tie as tie
+use Rattle.growth.proofs.resize.grow_and_insert.Statement.{statement}
+use Rattle.growth.proofs.resize.grow_and_insert.Tie as tie
 
 check-requires : tie.Need-check-requires
 check-requires c κs = search needs

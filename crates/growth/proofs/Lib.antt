@@ -1,0 +1,2 @@
+pub mod GrowthLaws
+mod Examples

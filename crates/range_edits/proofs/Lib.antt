@@ -1,0 +1,2 @@
+pub mod RangeChanges
+mod Examples
