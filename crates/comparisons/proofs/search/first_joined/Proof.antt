@@ -1,0 +1,71 @@
+-- `comparisons::search::first_joined` meets its contract. Each join of two words below k is 0. Assumes nothing.
+use mathlib.Core.Path.{_≡_}
+use Prim.Native.Nat.{ℕ, _≤_, _<_, _-_}
+use denote.Ref.{now}
+use lib.ListN.{getD}
+use Rattle.queries.proofs.ScanLaws.{more}
+use Rattle.two_sets.specs.Operations.{maskedJoin}
+use borrow.Author.Needs.{needs}
+use native.Mathlib.Omega.{arith}
+use Rattle.comparisons.proofs.search.first_joined.Statement.{statement}
+use Rattle.comparisons.proofs.search.first_joined.Tie as tie
+
+abbrev Inv-loop : tie.InvT-loop
+Inv-loop words other end first second both k₀ k = (k ≤ end) × ((i : ℕ) → 0 ≤ i → i < k → maskedJoin first second both (getD words i 0) (getD other i 0) ≡ 0)
+
+abbrev μ-loop : tie.MeasureT-loop
+μ-loop words other end first second both k₀ k = end - k
+
+loop-holds : tie.Need-loop-holds Inv-loop μ-loop
+loop-holds c = (omega arith, λ i a b. absurd (omega arith))
+
+mul-a : tie.Need-mul-a Inv-loop μ-loop
+mul-a c = search needs
+
+shared-slice-read-a : tie.Need-shared-slice-read-a Inv-loop μ-loop
+shared-slice-read-a c = search needs
+
+mul-b : tie.Need-mul-b Inv-loop μ-loop
+mul-b c = search needs
+
+shared-slice-read-b : tie.Need-shared-slice-read-b Inv-loop μ-loop
+shared-slice-read-b c = search needs
+
+add-k : tie.Need-add-k Inv-loop μ-loop
+add-k c = search needs
+
+loop-less : tie.Need-loop-less Inv-loop μ-loop
+loop-less c = search needs
+
+loop-again : tie.Need-loop-again Inv-loop μ-loop
+loop-again c =
+    let a = c .before .before .before .before .before .args in
+    let inv = c .before .before .before .before .loop .inv in
+    (omega arith, more (λ (i : ℕ). maskedJoin (a .first) (a .second) (a .both) (getD (now (a .words)) i 0) (getD (now (a .other)) i 0)) 0 _ 0 (inv .1) (c .if2 .left))
+
+returns : tie.Need-returns Inv-loop μ-loop
+returns c =
+    let inv = c .before .loop .inv in
+    record { inside = inv .0; before = λ i h. inv .1 i (omega arith) h; stop = λ h. absurd (omega arith) }
+
+returns-2 : tie.Need-returns-2 Inv-loop μ-loop
+returns-2 c =
+    let inv = c .before .before .before .before .loop .inv in
+    record { inside = inv .0; before = λ i h. inv .1 i (omega arith) h; stop = λ h. c .if2 .taken }
+
+pub first-joined-spec : {M : Type 1} → statement M
+first-joined-spec =
+    tie.close
+    (tie.spec
+    Inv-loop
+    μ-loop
+    loop-holds
+    mul-a
+    shared-slice-read-a
+    mul-b
+    shared-slice-read-b
+    add-k
+    loop-less
+    loop-again
+    returns
+    returns-2)

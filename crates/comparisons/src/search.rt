@@ -1,0 +1,42 @@
+use sets::FixedBitSet;
+use sets::blocks_of;
+use sets::lesser;
+ghost use mathlib.Core.Path.{_≡_};
+ghost use Prim.Native.Nat.{ℕ, _≤_};
+ghost use lib.ListN.{length, getD};
+ghost use Rattle.two_sets.specs.Operations.{maskedJoin};
+ghost use Rattle.comparisons.specs.Search.{common, FirstAt};
+
+// How many words both sets have.
+pub(crate) fn common_blocks(a: FixedBitSet, b: FixedBitSet) -> usize
+    ensures { λ r. ⌜ r ≡ common a b ⌝ }
+{
+    lesser(blocks_of(a.length), blocks_of(b.length))
+}
+
+// The first word below `end` where the join of the two words is not 0: the end where there is none.
+// `first`, `second` and `both` are all ones or 0, as in `two_sets`: one loop serves every comparison.
+pub(crate) fn first_joined(
+    words: &[u64],
+    other: &[u64],
+    end: usize,
+    first: u64,
+    second: u64,
+    both: u64,
+) -> usize
+    requires { ⌜ (end ≤ length (now words)) × (end ≤ length (now other)) ⌝ }
+    ensures { λ r. ⌜ FirstAt (λ (k : ℕ). maskedJoin first second both (getD (now (words .entry)) k 0) (getD (now (other .entry)) k 0)) end r ⌝ }
+{
+    let mut k = 0;
+    loop {
+        if end <= k {
+            break k;
+        }
+        let a = words[k];
+        let b = other[k];
+        if ((a & first) ^ (b & second)) ^ ((a & b) & both) != 0 {
+            break k;
+        }
+        k += 1;
+    }
+}

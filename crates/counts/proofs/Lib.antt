@@ -1,0 +1,6 @@
+pub mod WordRows
+pub mod RestLaws
+pub mod JointLaws
+pub mod ListLaws
+pub mod CountRules
+mod Examples
