@@ -1,9 +1,9 @@
-use sets::change_blocks;
+use blocks::change_blocks;
 ghost use mathlib.Core.Path.{_≡_};
 ghost use mathlib.Core.Bool.{Bool};
 ghost use Prim.Native.Nat.{ℕ, _-_, _^_};
 ghost use lib.ListN.{getD, set as setAt};
-ghost use Rattle.sets.specs.Blocks.{swept};
+ghost use Rattle.blocks.specs.Sweeps.{swept};
 ghost use Rattle.changes.specs.Changes.{effect, changedWord};
 
 // What happens to each bit that an edit names.

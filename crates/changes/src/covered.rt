@@ -6,7 +6,7 @@ ghost use mathlib.Core.Path.{_≡_};
 ghost use Prim.Native.Nat.{ℕ};
 ghost use lib.ListN.{length};
 ghost use Rattle.masks.specs.RangeMasks.{rangeMask};
-ghost use Rattle.sets.specs.Blocks.{swept};
+ghost use Rattle.blocks.specs.Sweeps.{swept};
 ghost use Rattle.changes.specs.Changes.{changedWord};
 
 // The first word that the range meets with its mask, the whole words between, and the last word with its mask.

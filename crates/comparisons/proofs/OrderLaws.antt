@@ -16,10 +16,10 @@ use Rattle.sets.specs.declared.fixed_bit_set.FixedBitSet.{FixedBitSet}
 use Rattle.sets.proofs.QuestionLaws.{Valid}
 use Rattle.sets.proofs.ReadLaws.{read-bit}
 use Rattle.sets.proofs.WordLaws.{bit-at, within-words}
-use Rattle.two_sets.specs.Operations.{joinedWord}
-use Rattle.two_sets.specs.declared.operation.Operation.the-variants.{SymmetricDifference}
+use Rattle.joins.specs.Operations.{joinedWord}
+use Rattle.joins.specs.declared.operation.Operation.the-variants.{SymmetricDifference}
 use Rattle.two_sets.proofs.SetJoins.{BothValid}
-use Rattle.two_sets.proofs.WordJoins.{joined-digit, joined-is}
+use Rattle.joins.proofs.WordJoins.{joined-digit, joined-is}
 use Rattle.comparisons.specs.Relations.{orderOf, wordsOrder, order}
 use Rattle.comparisons.proofs.SearchLaws.{FirstMasked, FirstJoin, first-symmetric}
 

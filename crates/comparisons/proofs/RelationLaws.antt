@@ -23,7 +23,7 @@ use Rattle.sets.proofs.WordLaws.{words-hold}
 use Rattle.queries.specs.Queries.{anyIn}
 use Rattle.queries.specs.Rules.{rangeQuestions, containsAnyRule}
 use Rattle.queries.proofs.RowLaws.{some-ext, all-not-some}
-use Rattle.two_sets.specs.declared.operation.Operation.the-variants.{Intersection, Difference}
+use Rattle.joins.specs.declared.operation.Operation.the-variants.{Intersection, Difference}
 use Rattle.comparisons.specs.Relations.{disjoint, subset}
 use Rattle.comparisons.specs.Search.{common}
 use Rattle.comparisons.proofs.SearchLaws.{Searched, joinedAt, none-below, joined-some, joined-none}

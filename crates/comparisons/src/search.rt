@@ -1,10 +1,10 @@
+use blocks::lesser;
 use sets::FixedBitSet;
 use sets::blocks_of;
-use sets::lesser;
 ghost use mathlib.Core.Path.{_≡_};
 ghost use Prim.Native.Nat.{ℕ, _≤_};
 ghost use lib.ListN.{length, getD};
-ghost use Rattle.two_sets.specs.Operations.{maskedJoin};
+ghost use Rattle.joins.specs.Operations.{maskedJoin};
 ghost use Rattle.comparisons.specs.Search.{common, FirstAt};
 
 // How many words both sets have.

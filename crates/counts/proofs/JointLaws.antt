@@ -17,10 +17,10 @@ use Rattle.sets.proofs.QuestionLaws.{valid-yes}
 use Rattle.sets.proofs.ReadLaws.{read-bit, read-clipped}
 use Rattle.sets.proofs.WordLaws.{words-hold}
 use Rattle.sets.proofs.WriteLaws.{Clipped}
-use Rattle.two_sets.specs.Operations.{joined}
+use Rattle.joins.specs.Operations.{joined}
 use Rattle.two_sets.specs.Rules.{bothQuestions}
-use Rattle.two_sets.specs.declared.operation.Operation.{Operation}
-use Rattle.two_sets.specs.declared.operation.Operation.the-variants.{Union, Intersection, Difference, SymmetricDifference}
+use Rattle.joins.specs.declared.operation.Operation.{Operation}
+use Rattle.joins.specs.declared.operation.Operation.the-variants.{Union, Intersection, Difference, SymmetricDifference}
 use Rattle.two_sets.proofs.SetJoins.{both-valid}
 use Rattle.queries.proofs.RowLaws.{count-clip}
 use Rattle.counts.specs.Parts.{jointOnes, onesFrom, onesBeyond}

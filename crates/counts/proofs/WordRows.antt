@@ -8,9 +8,9 @@ use Rattle.word_bits.specs.Counts.{count}
 use Rattle.word_bits.specs.Digits.{digit}
 use Rattle.word_bits.proofs.Ones.{count-add, count-ext}
 use Rattle.sets.specs.Members.{bitOf}
-use Rattle.two_sets.specs.Operations.{joined, joinedWord}
-use Rattle.two_sets.specs.declared.operation.Operation.{Operation}
-use Rattle.two_sets.proofs.WordJoins.{joined-digit}
+use Rattle.joins.specs.Operations.{joined, joinedWord}
+use Rattle.joins.specs.declared.operation.Operation.{Operation}
+use Rattle.joins.proofs.WordJoins.{joined-digit}
 use Rattle.counts.specs.Parts.{rowOf}
 
 row-at : (f : ℕ → ℕ) (k j : ℕ) → j < 64 → rowOf f (k * 64 + j) ≡ digit (f k) j

@@ -8,9 +8,9 @@ use Rattle.sets.specs.Members.{Members, read}
 use Rattle.sets.specs.Outcomes.{counted}
 use Rattle.sets.specs.declared.fixed_bit_set.FixedBitSet.{FixedBitSet}
 use Rattle.sets.specs.declared.answers.Counted.{Counted}
-use Rattle.two_sets.specs.Operations.{joined}
+use Rattle.joins.specs.Operations.{joined}
 use Rattle.two_sets.specs.Rules.{bothQuestions}
-use Rattle.two_sets.specs.declared.operation.Operation.{Operation}
+use Rattle.joins.specs.declared.operation.Operation.{Operation}
 
 -- the bits of the words f 0, f 1 and so on
 unfoldable pub rowOf : (ℕ → ℕ) → ℕ → Bool

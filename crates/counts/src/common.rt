@@ -1,11 +1,11 @@
-use two_sets::Operation;
+use joins::Operation;
 use word_bits::count_ones;
 ghost use mathlib.Core.Path.{_≡_};
 ghost use Prim.Native.Nat.{ℕ, _*_, _≤_};
 ghost use lib.ListN.{length, getD};
 ghost use Rattle.word_bits.specs.Counts.{count};
 ghost use Rattle.sets.specs.Members.{bitOf};
-ghost use Rattle.two_sets.specs.Operations.{joined, maskedJoin};
+ghost use Rattle.joins.specs.Operations.{joined, maskedJoin};
 ghost use Rattle.counts.specs.Parts.{rowOf};
 
 // How many bits of the words 0..end are set, once joined: `first`, `second` and `both` are all ones or 0,

@@ -1,10 +1,10 @@
 use crate::common::ones_common;
 use crate::rests::ones_beyond;
+use blocks::lesser;
+use joins::Operation;
 use sets::Counted;
 use sets::FixedBitSet;
 use sets::blocks_of;
-use sets::lesser;
-use two_sets::Operation;
 use two_sets::check_both;
 ghost use mathlib.Core.Path.{_≡_};
 ghost use Rattle.counts.specs.Parts.{jointCountRule};

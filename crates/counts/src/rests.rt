@@ -1,7 +1,7 @@
+use blocks::lesser;
+use joins::Operation;
 use queries::count_ones;
 use sets::FixedBitSet;
-use sets::lesser;
-use two_sets::Operation;
 ghost use mathlib.Core.Path.{_≡_};
 ghost use Rattle.sets.specs.Members.{read};
 ghost use Rattle.sets.specs.Questions.{questions};

@@ -10,11 +10,11 @@ use Rattle.word_bits.specs.Digits.{wordOf}
 use Rattle.word_bits.proofs.Digits.{word-is}
 use Rattle.word_bits.proofs.Order.{lt-or-le}
 use Rattle.masks.proofs.RangeLaws.{covers-below, covers-above}
-use Rattle.sets.specs.Blocks.{swept}
+use Rattle.blocks.specs.Sweeps.{swept}
 use Rattle.sets.specs.Members.{Members, wordsOf, read, write, setOf, changed}
 use Rattle.sets.specs.declared.fixed_bit_set.FixedBitSet.{FixedBitSet}
-use Rattle.sets.proofs.BlockLaws.{length-swept, swept-in, swept-out}
-use Rattle.sets.proofs.FreshLaws.{zeroed, zeroed-is, zeroed-write, no-members}
+use Rattle.blocks.proofs.BlockLaws.{length-swept, swept-in, swept-out}
+use Rattle.sets.proofs.ZeroLaws.{zeroed, zeroed-is, zeroed-write, no-members}
 use Rattle.sets.proofs.QuestionLaws.{Valid, Room}
 use Rattle.sets.proofs.ReadLaws.{read-digit, read-above, read-clipped, write-valid}
 use Rattle.sets.proofs.WordLaws.{words-mono, words-hold}

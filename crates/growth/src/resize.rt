@@ -1,12 +1,12 @@
+use blocks::change_blocks;
+use blocks::larger;
 use changes::Change;
 use changes::change_block;
 use sets::Edited;
 use sets::FixedBitSet;
 use sets::ask_new;
 use sets::blocks_of;
-use sets::change_blocks;
 use sets::check;
-use sets::larger;
 ghost use mathlib.Core.Path.{_≡_};
 ghost use Rattle.sets.specs.Outcomes.{outcome};
 ghost use Rattle.growth.specs.Rules.{clearRule, growRule, growAndInsertRule};

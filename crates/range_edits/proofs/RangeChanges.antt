@@ -13,10 +13,10 @@ use Rattle.masks.specs.Ranges.{covers}
 use Rattle.masks.specs.RangeMasks.{rangeMask}
 use Rattle.masks.proofs.MaskLaws.{mask-beyond}
 use Rattle.masks.proofs.RangeLaws.{Within, covers-above, end-block-le}
-use Rattle.sets.specs.Blocks.{swept}
+use Rattle.blocks.specs.Sweeps.{swept}
 use Rattle.sets.specs.Members.{wordsOf, read, write, changed}
 use Rattle.sets.specs.declared.fixed_bit_set.FixedBitSet.{FixedBitSet}
-use Rattle.sets.proofs.BlockLaws.{length-swept, swept-in, swept-out}
+use Rattle.blocks.proofs.BlockLaws.{length-swept, swept-in, swept-out}
 use Rattle.sets.proofs.QuestionLaws.{Valid}
 use Rattle.sets.proofs.ReadLaws.{changed-write}
 use Rattle.changes.specs.Changes.{effect, changedWord}

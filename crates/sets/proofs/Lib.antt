@@ -1,9 +1,7 @@
-pub mod BlockLaws
-pub mod LoopLaws
 pub mod WordLaws
 pub mod WriteLaws
 pub mod QuestionLaws
 pub mod OutcomeLaws
 pub mod ReadLaws
 mod StrayLaws
-pub mod FreshLaws
+pub mod ZeroLaws

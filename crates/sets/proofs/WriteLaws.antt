@@ -86,3 +86,11 @@ write-write ws s t le room =
     (length-write (write ws s) t (rw (length-write ws s (omega arith)) room) ∙ length-write ws s (omega arith))
     (λ i h. write-in (write ws s) t i h)
     (λ i h. write-out (write ws s) t i h ∙ write-out ws s i (omega arith))
+
+-- words stay words
+pub write-fits : (ws : List ℕ) (s : Members) → ((k : ℕ) → getD ws k 0 < 2 ^ 64) → (k : ℕ) → getD (write ws s) k 0 < 2 ^ 64
+write-fits ws s fit k = go (lt-or-le k (wordsOf (s .len)))
+  where
+    go : (k < wordsOf (s .len)) ⊎ (wordsOf (s .len) ≤ k) → getD (write ws s) k 0 < 2 ^ 64
+    go (inl l) = rw (write-in ws s k l) (word-lt (s .has) k)
+    go (inr g) = rw (write-out ws s k g) (fit k)

@@ -1,22 +1,14 @@
--- The rules of fresh sets, `len`, `is_empty` and `as_slice`.
+-- The rules of `len`, `is_empty` and `as_slice`.
 use mathlib.Core.List.{List, []}
 use Prim.Native.Nat.{ℕ}
 use lib.Dec.{eqb}
 use lib.ListN.{take}
-use Rattle.sets.specs.Members.{empty, read, setOf, wordsOf}
-use Rattle.sets.specs.Questions.{questions, newQuestions}
-use Rattle.sets.specs.Outcomes.{Outcome, given, edited, told, counted}
+use Rattle.sets.specs.Members.{wordsOf}
+use Rattle.sets.specs.Questions.{questions}
+use Rattle.sets.specs.Outcomes.{given, told, counted}
 use Rattle.sets.specs.declared.fixed_bit_set.FixedBitSet.{FixedBitSet}
 use Rattle.sets.specs.declared.answers.Told.{Told}
 use Rattle.sets.specs.declared.answers.Counted.{Counted}
-
--- a fresh set of n bits has no members; refused, its length is 0
-abbrev pub withCapacityRule : ℕ → List ℕ → Outcome
-withCapacityRule n ws = edited (newQuestions n ws) (setOf (empty 0)) ws (empty n)
-
--- the blocks copied, missing ones 0, further ones ignored, the bits from n up cleared
-abbrev pub withCapacityAndBlocksRule : ℕ → List ℕ → List ℕ → Outcome
-withCapacityAndBlocksRule n blocks ws = edited (newQuestions n ws) (setOf (empty 0)) ws (read blocks (setOf (empty n)))
 
 -- `len` gives L
 abbrev pub lenRule : FixedBitSet → List ℕ → Counted

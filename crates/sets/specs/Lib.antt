@@ -1,4 +1,3 @@
-pub mod Blocks
 pub mod Members
 pub mod Questions
 pub mod Outcomes

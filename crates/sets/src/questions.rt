@@ -1,5 +1,5 @@
-use crate::blocks::blocks_of;
 use crate::fixed_bit_set::FixedBitSet;
+use crate::sizes::blocks_of;
 use word_bits::low_mask;
 ghost use mathlib.Core.Path.{_≡_};
 ghost use Rattle.sets.specs.Questions.{questions, positionQuestion, newQuestions};

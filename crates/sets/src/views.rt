@@ -1,9 +1,9 @@
 use crate::answers::Counted;
 use crate::answers::Told;
-use crate::blocks::block;
-use crate::blocks::blocks_of;
 use crate::fixed_bit_set::FixedBitSet;
 use crate::questions::check;
+use crate::sizes::blocks_of;
+use blocks::block;
 ghost use mathlib.Core.Path.{_≡_};
 ghost use Rattle.sets.specs.Members.{read};
 ghost use Rattle.sets.specs.Questions.{questions};

@@ -1,5 +1,3 @@
-pub mod WordJoins
-pub mod BlockJoins
 pub mod MemberJoins
 pub mod SetJoins
 mod Examples

@@ -10,19 +10,19 @@ use Rattle.word_bits.specs.Digits.{digit}
 use Rattle.word_bits.proofs.Digits.{digit-of-zero, word-is}
 use Rattle.word_bits.proofs.Order.{lt-or-le}
 use Rattle.masks.proofs.RangeLaws.{covers-above}
-use Rattle.sets.specs.Blocks.{swept}
+use Rattle.blocks.specs.Sweeps.{swept}
 use Rattle.sets.specs.Members.{wordsOf, read, write}
 use Rattle.sets.specs.declared.fixed_bit_set.FixedBitSet.{FixedBitSet}
-use Rattle.sets.proofs.BlockLaws.{length-swept, swept-in, swept-out}
+use Rattle.blocks.proofs.BlockLaws.{length-swept, swept-in, swept-out}
 use Rattle.sets.proofs.QuestionLaws.{Valid}
 use Rattle.sets.proofs.ReadLaws.{read-digit, read-above}
 use Rattle.sets.proofs.WordLaws.{words-hold}
 use Rattle.sets.proofs.WriteLaws.{write-is}
 use Rattle.two_sets.specs.Members.{combined}
-use Rattle.two_sets.specs.Operations.{joined, joinedWord, padded}
-use Rattle.two_sets.specs.declared.operation.Operation.{Operation}
-use Rattle.two_sets.proofs.BlockJoins.{padded-in, padded-out}
-use Rattle.two_sets.proofs.WordJoins.{joined-digit, joined-lt}
+use Rattle.joins.specs.Operations.{joined, joinedWord, padded}
+use Rattle.joins.specs.declared.operation.Operation.{Operation}
+use Rattle.joins.proofs.BlockJoins.{padded-in, padded-out}
+use Rattle.joins.proofs.WordJoins.{joined-digit, joined-lt}
 
 -- the digits of a set's word, 0 past its words, are its members
 pub padded-digit : (a : FixedBitSet) (ws : List ℕ) → Valid a ws → (k j : ℕ) → j < 64

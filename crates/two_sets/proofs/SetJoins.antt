@@ -4,14 +4,14 @@ use mathlib.Core.List.{List}
 use Prim.Native.Nat.{ℕ, _≤_, _<_, min, max}
 use native.Mathlib.Omega.{arith}
 use lib.ListN.{length, getD}
-use Rattle.sets.specs.Blocks.{swept}
+use Rattle.blocks.specs.Sweeps.{swept}
 use Rattle.sets.specs.Questions.{questions}
 use Rattle.sets.specs.declared.fixed_bit_set.FixedBitSet.{FixedBitSet}
 use Rattle.sets.proofs.QuestionLaws.{Valid, valid, first-both}
-use Rattle.two_sets.specs.Operations.{joinedWord, padded}
+use Rattle.joins.specs.Operations.{joinedWord, padded}
 use Rattle.two_sets.specs.Rules.{bothQuestions}
-use Rattle.two_sets.specs.declared.operation.Operation.{Operation}
-use Rattle.two_sets.proofs.BlockJoins.{padded-in, padded-out, three-sweeps}
+use Rattle.joins.specs.declared.operation.Operation.{Operation}
+use Rattle.joins.proofs.BlockJoins.{padded-in, padded-out, three-sweeps}
 
 module _ (op : Operation) (blocks others total : ℕ) (ws vs : List ℕ) where
   -- word k of the result

@@ -2,9 +2,9 @@
 use mathlib.Core.Bool.{Bool}
 use Prim.Native.Nat.{ℕ, min, max}
 use Rattle.sets.specs.Members.{Members}
-use Rattle.two_sets.specs.Operations.{joined}
-use Rattle.two_sets.specs.declared.operation.Operation.{Operation}
-use Rattle.two_sets.specs.declared.operation.Operation.the-variants.{Union, Intersection, Difference, SymmetricDifference}
+use Rattle.joins.specs.Operations.{joined}
+use Rattle.joins.specs.declared.operation.Operation.{Operation}
+use Rattle.joins.specs.declared.operation.Operation.the-variants.{Union, Intersection, Difference, SymmetricDifference}
 
 -- n bits, each joined from those of two sets
 unfoldable pub combined : Operation → ℕ → Members → Members → Members

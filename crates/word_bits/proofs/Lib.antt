@@ -3,6 +3,7 @@ pub mod Digits
 pub mod Operations
 pub mod Ones
 pub mod Ends
+pub mod NumberEnds
 pub mod SingleBit
 pub mod Quantifiers
 pub mod LowMasks

@@ -2,7 +2,7 @@
 use mathlib.Core.Path.{_∙_}
 use denote.Ref.{now}
 use lib.ListN.{getD}
-use Rattle.sets.proofs.BlockLaws.{swept-ext}
+use Rattle.blocks.proofs.BlockLaws.{swept-ext}
 use Rattle.changes.proofs.WordChanges.{whole-insert, whole-remove, whole-toggle}
 use borrow.Author.Needs.{needs}
 use Rattle.changes.proofs.change.change_whole.Statement.{statement}

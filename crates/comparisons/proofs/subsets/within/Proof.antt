@@ -4,7 +4,7 @@ use mathlib.Core.Bool.{not}
 use denote.Ref.{now}
 use Rattle.sets.specs.Members.{wordsOf}
 use Rattle.sets.specs.declared.answers.Told.{Told}
-use Rattle.two_sets.specs.declared.operation.Operation.the-variants.{Difference}
+use Rattle.joins.specs.declared.operation.Operation.the-variants.{Difference}
 use Rattle.comparisons.proofs.RelationLaws.{subset-no, subset-yes, subset-rest, any-accepted}
 use Rattle.comparisons.proofs.SearchLaws.{Searched, both-of, common-lent, first-difference}
 use borrow.Author.Needs.{needs}

@@ -1,6 +1,6 @@
 -- `counts::common::ones_common` meets its contract. Assumes nothing.
 use denote.Ref.{now}
-use Rattle.two_sets.proofs.WordJoins.{union-word, intersection-word, difference-word, symmetric-difference-word}
+use Rattle.joins.proofs.WordJoins.{union-word, intersection-word, difference-word, symmetric-difference-word}
 use Rattle.counts.proofs.WordRows.{row-joined}
 use borrow.Author.Needs.{needs}
 use Rattle.counts.proofs.common.ones_common.Statement.{statement}

@@ -7,7 +7,7 @@ use lib.ListN.{getD}
 use Rattle.word_bits.specs.Counts.{count}
 use Rattle.word_bits.specs.Digits.{digit}
 use Rattle.word_bits.proofs.Ones.{count-le}
-use Rattle.two_sets.specs.Operations.{maskedJoin}
+use Rattle.joins.specs.Operations.{maskedJoin}
 use Rattle.counts.specs.Parts.{rowOf}
 use Rattle.counts.proofs.WordRows.{row-none, row-more}
 use borrow.Author.Needs.{needs}

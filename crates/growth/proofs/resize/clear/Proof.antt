@@ -2,11 +2,11 @@
 use mathlib.Core.Path.{_≡_, sym, ap, _∙_}
 use Prim.Native.Nat.{ℕ}
 use denote.Ref.{now}
-use Rattle.sets.specs.Blocks.{swept}
+use Rattle.blocks.specs.Sweeps.{swept}
 use Rattle.sets.specs.Questions.{questions}
 use Rattle.sets.proofs.OutcomeLaws.{given-no, given-yes}
 use Rattle.sets.proofs.QuestionLaws.{valid}
-use Rattle.sets.proofs.FreshLaws.{zeroed}
+use Rattle.sets.proofs.ZeroLaws.{zeroed}
 use Rattle.sets.proofs.ReadLaws.{changed-outcome}
 use Rattle.growth.proofs.GrowthLaws.{cleared-write}
 use borrow.Author.Needs.{needs}

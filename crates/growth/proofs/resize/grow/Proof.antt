@@ -3,13 +3,13 @@ use mathlib.Core.Path.{_≡_, sym, ap, ap₂, _∙_}
 use mathlib.Core.List.{List}
 use Prim.Native.Nat.{ℕ, max}
 use denote.Ref.{now}
-use Rattle.sets.specs.Blocks.{swept}
+use Rattle.blocks.specs.Sweeps.{swept}
 use Rattle.sets.specs.Members.{wordsOf, read, setOf, empty}
 use Rattle.sets.specs.Questions.{questions, newQuestions}
 use Rattle.sets.specs.declared.fixed_bit_set.FixedBitSet.{FixedBitSet}
 use Rattle.sets.proofs.OutcomeLaws.{given-no, given-yes}
 use Rattle.sets.proofs.QuestionLaws.{first-no, first-yes, valid, room}
-use Rattle.sets.proofs.FreshLaws.{zeroed}
+use Rattle.sets.proofs.ZeroLaws.{zeroed}
 use Rattle.edits.specs.Edits.{grown}
 use Rattle.growth.proofs.GrowthLaws.{grown-write}
 use borrow.Author.Needs.{needs}

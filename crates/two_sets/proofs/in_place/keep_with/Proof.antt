@@ -3,10 +3,10 @@ use mathlib.Core.Path.{_≡_, sym, ap, ap₂, _∙_}
 use mathlib.Core.List.{List}
 use Prim.Native.Nat.{ℕ}
 use denote.Ref.{now}
-use Rattle.sets.specs.Blocks.{swept}
+use Rattle.blocks.specs.Sweeps.{swept}
 use Rattle.sets.specs.Members.{read}
 use Rattle.two_sets.specs.Members.{combined}
-use Rattle.two_sets.specs.Operations.{joinedWord, padded}
+use Rattle.joins.specs.Operations.{joinedWord, padded}
 use Rattle.two_sets.specs.Rules.{bothQuestions}
 use Rattle.sets.proofs.OutcomeLaws.{given-no, given-yes}
 use Rattle.two_sets.proofs.MemberJoins.{joined-write}

@@ -1,7 +1,7 @@
 -- `word_bits::leading_zeros` meets its contract: the language's count is the count over the digits. Assumes nothing.
 use native.Mathlib.Omega.{arith}
 use lib.Count.{leading-le}
-use Rattle.word_bits.proofs.Ends.{leading-above}
+use Rattle.word_bits.proofs.NumberEnds.{leading-above}
 use Rattle.word_bits.proofs.counts.leading_zeros.Statement.{statement}
 use Rattle.word_bits.proofs.counts.leading_zeros.Tie as tie
 

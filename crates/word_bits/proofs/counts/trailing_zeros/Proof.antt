@@ -1,7 +1,7 @@
 -- `word_bits::trailing_zeros` meets its contract: the language's count is the count over the digits. Assumes nothing.
 use native.Mathlib.Omega.{arith}
 use lib.Count.{trailing-le}
-use Rattle.word_bits.proofs.Ends.{trailing-below}
+use Rattle.word_bits.proofs.NumberEnds.{trailing-below}
 use Rattle.word_bits.proofs.counts.trailing_zeros.Statement.{statement}
 use Rattle.word_bits.proofs.counts.trailing_zeros.Tie as tie
 
