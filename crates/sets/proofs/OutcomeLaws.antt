@@ -2,7 +2,10 @@
 use mathlib.Core.Path.{_≡_, refl, sym, ap, _∙_}
 use Prim.Native.Nat.{ℕ, zero, suc}
 use native.Mathlib.Omega.{arith}
-use Rattle.sets.specs.Outcomes.{given}
+use mathlib.Core.List.{List}
+use Rattle.sets.specs.Members.{Members}
+use Rattle.sets.specs.Outcomes.{given, edited}
+use Rattle.sets.specs.declared.fixed_bit_set.FixedBitSet.{FixedBitSet}
 
 module _ {A : Type 0} where
   refused-at : (n : ℕ) (refused : ℕ → A) (accepted : A) → (n ≡ 0 → ⊥) → refused n ≡ given n refused accepted
@@ -39,3 +42,8 @@ module _ {A : Type 0} (of : A → ℕ) (refused : ℕ → A) where
   unfolding given
   given-number accepted zero num z e = ap of e ∙ z
   given-number accepted (suc n) num z e = ap of e ∙ num (suc n)
+
+-- a refused edit leaves the set as handed in and every word unaltered
+pub edited-refused : (n : ℕ) (set : FixedBitSet) (ws : List ℕ) (s : Members) → (n ≡ 0 → ⊥)
+    → edited n set ws s ≡ record { number = n; set = set; words = ws }
+edited-refused n set ws s h = sym (given-no (λ m. record { number = m; set = set; words = ws }) _ refl h)

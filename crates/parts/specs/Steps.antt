@@ -1,0 +1,28 @@
+-- Steps of a part: a rising list over one set, between low and high.
+use mathlib.Core.Bool.{Bool, cond}
+use Prim.Native.Nat.{ℕ, suc, _+_, _-_}
+use lib.Dec.{ltb}
+use Rattle.word_bits.specs.Counts.{zerosBelow, zerosAbove}
+use Rattle.queries.specs.declared.found.Position.{Position}
+use Rattle.queries.specs.declared.found.Position.the-variants.{At, Nothing}
+use Rattle.parts.specs.declared.records.Part.{Part}
+use Rattle.parts.specs.declared.records.Step.{Step}
+
+-- the positions from low up, and from high down, that stand before the next one of the part
+abbrev pub ahead : (ℕ → Bool) → Part → ℕ
+ahead has part = zerosBelow (part .high - part .low) (λ j. has (part .low + j))
+
+abbrev pub behind : (ℕ → Bool) → Part → ℕ
+behind has part = zerosAbove (part .high - part .low) (λ j. has (part .low + j))
+
+-- a front step gives the smallest position of the part with low <= p < high and makes low p + 1; none changes no record
+unfoldable pub front : (ℕ → Bool) → Part → Step
+front has part = cond (ltb (ahead has part) (part .high - part .low))
+    (record { at = At (part .low + ahead has part); part = record { low = part .low + ahead has part + 1; high = part .high } })
+    (record { at = Nothing; part = part })
+
+-- a back step the largest, and makes high p
+unfoldable pub back : (ℕ → Bool) → Part → Step
+back has part = cond (ltb (behind has part) (part .high - part .low))
+    (record { at = At (part .high - suc (behind has part)); part = record { low = part .low; high = part .high - suc (behind has part) } })
+    (record { at = Nothing; part = part })

@@ -1,0 +1,28 @@
+use queries::Position;
+
+// Which positions of a set a part is, given another set.
+pub enum Selection {
+    Ones,
+    Zeroes,
+    Intersection,
+    Difference,
+}
+
+// What is left of a part: its positions from low up to high, which is not included.
+pub struct Part {
+    pub low: usize,
+    pub high: usize,
+}
+
+// A position or none, and what is left of the part after it.
+pub struct Step {
+    pub at: Position,
+    pub part: Part,
+}
+
+// Masks that are all ones or 0: the word flipped, the other word flipped, the other word left out.
+pub struct Chosen {
+    pub flip: u64,
+    pub away: u64,
+    pub all: u64,
+}

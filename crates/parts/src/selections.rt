@@ -1,0 +1,54 @@
+use crate::records::Chosen;
+use crate::records::Part;
+use crate::records::Selection;
+use crate::records::Step;
+use crate::search::back_step;
+use crate::search::front_step;
+ghost use mathlib.Core.Path.{_≡_};
+ghost use Prim.Native.Nat.{ℕ};
+ghost use Rattle.sets.specs.Members.{bitOf};
+ghost use Rattle.parts.specs.Selections.{chosenMasks, selected};
+ghost use Rattle.parts.specs.Steps.{front, back};
+
+fn chosen(selection: Selection) -> Chosen
+    ensures { λ r. ⌜ r ≡ chosenMasks selection ⌝ }
+{
+    match selection {
+        Selection::Ones => Chosen {
+            flip: 0,
+            away: 0,
+            all: u64::MAX,
+        },
+        Selection::Zeroes => Chosen {
+            flip: u64::MAX,
+            away: 0,
+            all: u64::MAX,
+        },
+        Selection::Intersection => Chosen {
+            flip: 0,
+            away: 0,
+            all: 0,
+        },
+        Selection::Difference => Chosen {
+            flip: 0,
+            away: u64::MAX,
+            all: 0,
+        },
+    }
+}
+
+// A front step over the bits of two slices; a bit past a slice's end is no.
+pub fn front_selected(words: &[u64], other: &[u64], part: Part, selection: Selection) -> Step
+    ensures { λ r. ⌜ r ≡ front (λ (p : ℕ). selected selection (bitOf (now (words .entry)) p) (bitOf (now (other .entry)) p)) part ⌝ }
+{
+    let masks = chosen(selection);
+    front_step(words, other, part, masks.flip, masks.away, masks.all)
+}
+
+// A back step over the bits of two slices.
+pub fn back_selected(words: &[u64], other: &[u64], part: Part, selection: Selection) -> Step
+    ensures { λ r. ⌜ r ≡ back (λ (p : ℕ). selected selection (bitOf (now (words .entry)) p) (bitOf (now (other .entry)) p)) part ⌝ }
+{
+    let masks = chosen(selection);
+    back_step(words, other, part, masks.flip, masks.away, masks.all)
+}

@@ -1,0 +1,2 @@
+pub mod PairLaws
+mod Examples

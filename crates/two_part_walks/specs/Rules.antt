@@ -1,0 +1,62 @@
+-- The rule of each step of a walk of two parts: questions 1 to 3 of each set, then 8 of each part, first part first.
+use mathlib.Core.Bool.{Bool, not, _&&_}
+use mathlib.Core.List.{List}
+use Prim.Native.Nat.{ℕ}
+use Rattle.sets.specs.Members.{Members, read}
+use Rattle.sets.specs.Outcomes.{given}
+use Rattle.sets.specs.Questions.{first}
+use Rattle.sets.specs.declared.fixed_bit_set.FixedBitSet.{FixedBitSet}
+use Rattle.two_sets.specs.Rules.{bothQuestions}
+use Rattle.queries.specs.declared.found.Position.{Position}
+use Rattle.queries.specs.declared.found.Position.the-variants.{At, Nothing}
+use Rattle.parts.specs.Steps.{front, back}
+use Rattle.parts.specs.declared.records.Part.{Part}
+use Rattle.parts.specs.declared.records.Step.{Step}
+use Rattle.walks.specs.Rules.{partQuestion}
+use Rattle.two_part_walks.specs.declared.records.SteppedPair.{SteppedPair}
+
+-- a position or none, and both records
+pub record PairStep : Type 0 where
+  pub at : Position
+  pub one : Part
+  pub two : Part
+
+-- the part that is tried first decides where it gives a position
+abbrev pub orElse : Position → PairStep → PairStep → PairStep
+orElse (At p) x y = x
+orElse Nothing x y = y
+
+-- a front step tries the first part, then the second
+abbrev pub frontPair : (ℕ → Bool) → (ℕ → Bool) → Part → Part → PairStep
+frontPair f g one two = orElse (front f one .at)
+    (record { at = front f one .at; one = front f one .part; two = two })
+    (record { at = front g two .at; one = one; two = front g two .part })
+
+-- a back step the second, then the first
+abbrev pub backPair : (ℕ → Bool) → (ℕ → Bool) → Part → Part → PairStep
+backPair f g one two = orElse (back g two .at)
+    (record { at = back g two .at; one = one; two = back g two .part })
+    (record { at = back f one .at; one = back f one .part; two = two })
+
+-- refused, none and both records as handed in
+abbrev pub steppedPair : ℕ → Part → Part → PairStep → SteppedPair
+steppedPair n one two s = given n (λ m. record { number = m; at = Nothing; one = one; two = two }) (record { number = 0; at = s .at; one = s .one; two = s .two })
+
+abbrev pub pairQuestions : FixedBitSet → List ℕ → FixedBitSet → List ℕ → Part → Part → ℕ
+pairQuestions a ws b vs one two = first (bothQuestions a ws b vs) (first (partQuestion a one) (partQuestion b two))
+
+-- the members of the first that are not in the second
+abbrev pub without : Members → Members → ℕ → Bool
+without s o p = s .has p && not (o .has p)
+
+-- `union`: members of A rising, then members of B not in A rising
+abbrev pub unionNextRule : FixedBitSet → List ℕ → FixedBitSet → List ℕ → Part → Part → SteppedPair
+unionNextRule a ws b vs one two = steppedPair (pairQuestions a ws b vs one two) one two (frontPair (read ws a .has) (without (read vs b) (read ws a)) one two)
+
+abbrev pub unionNextBackRule : FixedBitSet → List ℕ → FixedBitSet → List ℕ → Part → Part → SteppedPair
+unionNextBackRule a ws b vs one two = steppedPair (pairQuestions a ws b vs one two) one two (backPair (read ws a .has) (without (read vs b) (read ws a)) one two)
+
+-- `symmetric_difference`: A without B rising, then B without A rising
+abbrev pub symmetricDifferenceNextRule : FixedBitSet → List ℕ → FixedBitSet → List ℕ → Part → Part → SteppedPair
+symmetricDifferenceNextRule a ws b vs one two =
+    steppedPair (pairQuestions a ws b vs one two) one two (frontPair (without (read ws a) (read vs b)) (without (read vs b) (read ws a)) one two)
