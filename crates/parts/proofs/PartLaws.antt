@@ -19,7 +19,9 @@ use Rattle.masks.specs.RangeMasks.{rangeMask}
 use Rattle.masks.proofs.RangeLaws.{covers-yes, covers-below, covers-above, end-block, end-block-empty}
 use Rattle.queries.specs.declared.found.Position.the-variants.{At, Nothing}
 use Rattle.parts.specs.Selections.{row}
-use Rattle.parts.specs.Steps.{ahead, behind, front, back}
+use Rattle.parts.specs.Steps.{ahead, behind, front, back, step}
+use Rattle.parts.specs.declared.records.End.{End}
+use Rattle.parts.specs.declared.records.End.the-variants.{Front, Back}
 use Rattle.parts.specs.declared.records.Part.{Part}
 use Rattle.parts.specs.declared.records.Step.{Step}
 
@@ -84,14 +86,18 @@ above-ext (suc n) f g h =
     ap₂ (λ (b : Bool) (z : ℕ). cond b 0 (suc z)) (h n (le-refl (suc n))) (above-ext n f g (λ j l. h j (omega arith)))
 
 module _ (f g : ℕ → Bool) (part : Part) (same : (p : ℕ) → part .low ≤ p → p < part .high → f p ≡ g p) where
-  pub front-ext : front f part ≡ front g part
+  front-ext : front f part ≡ front g part
   unfolding front
   front-ext =
       ap (λ (z : ℕ). cond (ltb z (part .high - part .low)) (record { at = At (part .low + z); part = record { low = part .low + z + 1; high = part .high } }) (record { at = Nothing; part = part }))
       (below-ext (part .high - part .low) (λ j. f (part .low + j)) (λ j. g (part .low + j)) (λ j l. same (part .low + j) (omega arith) (omega arith)))
 
-  pub back-ext : back f part ≡ back g part
+  back-ext : back f part ≡ back g part
   unfolding back
   back-ext =
       ap (λ (z : ℕ). cond (ltb z (part .high - part .low)) (record { at = At (part .high - suc z); part = record { low = part .low; high = part .high - suc z } }) (record { at = Nothing; part = part }))
       (above-ext (part .high - part .low) (λ j. f (part .low + j)) (λ j. g (part .low + j)) (λ j l. same (part .low + j) (omega arith) (omega arith)))
+
+  pub step-ext : (end : End) → step end f part ≡ step end g part
+  step-ext Front = front-ext
+  step-ext Back = back-ext

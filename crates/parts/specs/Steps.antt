@@ -5,6 +5,8 @@ use lib.Dec.{ltb}
 use Rattle.word_bits.specs.Counts.{zerosBelow, zerosAbove}
 use Rattle.queries.specs.declared.found.Position.{Position}
 use Rattle.queries.specs.declared.found.Position.the-variants.{At, Nothing}
+use Rattle.parts.specs.declared.records.End.{End}
+use Rattle.parts.specs.declared.records.End.the-variants.{Front, Back}
 use Rattle.parts.specs.declared.records.Part.{Part}
 use Rattle.parts.specs.declared.records.Step.{Step}
 
@@ -26,3 +28,7 @@ unfoldable pub back : (ℕ → Bool) → Part → Step
 back has part = cond (ltb (behind has part) (part .high - part .low))
     (record { at = At (part .high - suc (behind has part)); part = record { low = part .low; high = part .high - suc (behind has part) } })
     (record { at = Nothing; part = part })
+
+abbrev pub step : End → (ℕ → Bool) → Part → Step
+step Front has part = front has part
+step Back has part = back has part

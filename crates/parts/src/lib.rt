@@ -4,8 +4,8 @@ mod search;
 mod selections;
 
 pub use records::Chosen;
+pub use records::End;
 pub use records::Part;
 pub use records::Selection;
 pub use records::Step;
-pub use selections::back_selected;
-pub use selections::front_selected;
+pub use selections::step_selected;

@@ -8,6 +8,12 @@ pub enum Selection {
     Difference,
 }
 
+// Which end of a part a step takes.
+pub enum End {
+    Front,
+    Back,
+}
+
 // What is left of a part: its positions from low up to high, which is not included.
 pub struct Part {
     pub low: usize,

@@ -1,4 +1,5 @@
 use crate::records::Chosen;
+use crate::records::End;
 use crate::records::Part;
 use crate::records::Selection;
 use crate::records::Step;
@@ -8,7 +9,7 @@ ghost use mathlib.Core.Path.{_≡_};
 ghost use Prim.Native.Nat.{ℕ};
 ghost use Rattle.sets.specs.Members.{bitOf};
 ghost use Rattle.parts.specs.Selections.{chosenMasks, selected};
-ghost use Rattle.parts.specs.Steps.{front, back};
+ghost use Rattle.parts.specs.Steps.{step};
 
 fn chosen(selection: Selection) -> Chosen
     ensures { λ r. ⌜ r ≡ chosenMasks selection ⌝ }
@@ -37,18 +38,19 @@ fn chosen(selection: Selection) -> Chosen
     }
 }
 
-// A front step over the bits of two slices; a bit past a slice's end is no.
-pub fn front_selected(words: &[u64], other: &[u64], part: Part, selection: Selection) -> Step
-    ensures { λ r. ⌜ r ≡ front (λ (p : ℕ). selected selection (bitOf (now (words .entry)) p) (bitOf (now (other .entry)) p)) part ⌝ }
+// A step over the bits of two slices; a bit past a slice's end is no.
+pub fn step_selected(
+    words: &[u64],
+    other: &[u64],
+    part: Part,
+    selection: Selection,
+    end: End,
+) -> Step
+    ensures { λ r. ⌜ r ≡ step end (λ (p : ℕ). selected selection (bitOf (now (words .entry)) p) (bitOf (now (other .entry)) p)) part ⌝ }
 {
     let masks = chosen(selection);
-    front_step(words, other, part, masks.flip, masks.away, masks.all)
-}
-
-// A back step over the bits of two slices.
-pub fn back_selected(words: &[u64], other: &[u64], part: Part, selection: Selection) -> Step
-    ensures { λ r. ⌜ r ≡ back (λ (p : ℕ). selected selection (bitOf (now (words .entry)) p) (bitOf (now (other .entry)) p)) part ⌝ }
-{
-    let masks = chosen(selection);
-    back_step(words, other, part, masks.flip, masks.away, masks.all)
+    match end {
+        End::Front => front_step(words, other, part, masks.flip, masks.away, masks.all),
+        End::Back => back_step(words, other, part, masks.flip, masks.away, masks.all),
+    }
 }

@@ -1,8 +1,8 @@
 use crate::records::SteppedPair;
+use parts::End;
 use parts::Part;
 use parts::Selection;
-use parts::back_selected;
-use parts::front_selected;
+use parts::step_selected;
 use queries::Position;
 use sets::FixedBitSet;
 use sets::as_slice;
@@ -55,7 +55,7 @@ fn front_pair(
             two,
         };
     }
-    let step = front_selected(words, as_slice(b, other), one, selection);
+    let step = step_selected(words, as_slice(b, other), one, selection, End::Front);
     let at = step.at;
     let left = step.part;
     match at {
@@ -66,7 +66,13 @@ fn front_pair(
             two,
         },
         Position::Nothing => {
-            let last = front_selected(other, as_slice(a, words), two, Selection::Difference);
+            let last = step_selected(
+                other,
+                as_slice(a, words),
+                two,
+                Selection::Difference,
+                End::Front,
+            );
             let found = last.at;
             let rest = last.part;
             SteppedPair {
@@ -99,7 +105,13 @@ fn back_pair(
             two,
         };
     }
-    let step = back_selected(other, as_slice(a, words), two, Selection::Difference);
+    let step = step_selected(
+        other,
+        as_slice(a, words),
+        two,
+        Selection::Difference,
+        End::Back,
+    );
     let at = step.at;
     let left = step.part;
     match at {
@@ -110,7 +122,7 @@ fn back_pair(
             two: left,
         },
         Position::Nothing => {
-            let last = back_selected(words, as_slice(b, other), one, selection);
+            let last = step_selected(words, as_slice(b, other), one, selection, End::Back);
             let found = last.at;
             let rest = last.part;
             SteppedPair {

@@ -1,9 +1,9 @@
 use crate::questions::ask_two;
 use crate::records::Stepped;
+use parts::End;
 use parts::Part;
 use parts::Selection;
-use parts::back_selected;
-use parts::front_selected;
+use parts::step_selected;
 use queries::Position;
 use sets::FixedBitSet;
 use sets::as_slice;
@@ -11,18 +11,19 @@ ghost use mathlib.Core.Path.{_≡_};
 ghost use Prim.Native.Nat.{ℕ};
 ghost use Rattle.sets.specs.Members.{read};
 ghost use Rattle.parts.specs.Selections.{selected};
-ghost use Rattle.parts.specs.Steps.{front, back};
+ghost use Rattle.parts.specs.Steps.{step};
 ghost use Rattle.walks.specs.Rules.{stepped, twoQuestions, intersectionNextRule, intersectionNextBackRule, differenceNextRule, differenceNextBackRule};
 
-fn pair_front(
+fn pair_step(
     a: FixedBitSet,
     words: &[u64],
     b: FixedBitSet,
     other: &[u64],
     part: Part,
     selection: Selection,
+    end: End,
 ) -> Stepped
-    ensures { λ r. ⌜ r ≡ stepped (twoQuestions a (now (words .entry)) b (now (other .entry)) part) part (front (λ (p : ℕ). selected selection (read (now (words .entry)) a .has p) (read (now (other .entry)) b .has p)) part) ⌝ }
+    ensures { λ r. ⌜ r ≡ stepped (twoQuestions a (now (words .entry)) b (now (other .entry)) part) part (step end (λ (p : ℕ). selected selection (read (now (words .entry)) a .has p) (read (now (other .entry)) b .has p)) part) ⌝ }
 {
     let number = ask_two(a, words, b, other, part);
     if number != 0 {
@@ -32,37 +33,9 @@ fn pair_front(
             part,
         };
     }
-    let step = front_selected(words, as_slice(b, other), part, selection);
-    let at = step.at;
-    let left = step.part;
-    Stepped {
-        number: 0,
-        at,
-        part: left,
-    }
-}
-
-fn pair_back(
-    a: FixedBitSet,
-    words: &[u64],
-    b: FixedBitSet,
-    other: &[u64],
-    part: Part,
-    selection: Selection,
-) -> Stepped
-    ensures { λ r. ⌜ r ≡ stepped (twoQuestions a (now (words .entry)) b (now (other .entry)) part) part (back (λ (p : ℕ). selected selection (read (now (words .entry)) a .has p) (read (now (other .entry)) b .has p)) part) ⌝ }
-{
-    let number = ask_two(a, words, b, other, part);
-    if number != 0 {
-        return Stepped {
-            number,
-            at: Position::Nothing,
-            part,
-        };
-    }
-    let step = back_selected(words, as_slice(b, other), part, selection);
-    let at = step.at;
-    let left = step.part;
+    let taken = step_selected(words, as_slice(b, other), part, selection, end);
+    let at = taken.at;
+    let left = taken.part;
     Stepped {
         number: 0,
         at,
@@ -79,7 +52,15 @@ pub fn intersection_next(
 ) -> Stepped
     ensures { λ r. ⌜ r ≡ intersectionNextRule a (now (words .entry)) b (now (other .entry)) part ⌝ }
 {
-    pair_front(a, words, b, other, part, Selection::Intersection)
+    pair_step(
+        a,
+        words,
+        b,
+        other,
+        part,
+        Selection::Intersection,
+        End::Front,
+    )
 }
 
 pub fn intersection_next_back(
@@ -91,7 +72,7 @@ pub fn intersection_next_back(
 ) -> Stepped
     ensures { λ r. ⌜ r ≡ intersectionNextBackRule a (now (words .entry)) b (now (other .entry)) part ⌝ }
 {
-    pair_back(a, words, b, other, part, Selection::Intersection)
+    pair_step(a, words, b, other, part, Selection::Intersection, End::Back)
 }
 
 pub fn difference_next(
@@ -103,7 +84,7 @@ pub fn difference_next(
 ) -> Stepped
     ensures { λ r. ⌜ r ≡ differenceNextRule a (now (words .entry)) b (now (other .entry)) part ⌝ }
 {
-    pair_front(a, words, b, other, part, Selection::Difference)
+    pair_step(a, words, b, other, part, Selection::Difference, End::Front)
 }
 
 pub fn difference_next_back(
@@ -115,5 +96,5 @@ pub fn difference_next_back(
 ) -> Stepped
     ensures { λ r. ⌜ r ≡ differenceNextBackRule a (now (words .entry)) b (now (other .entry)) part ⌝ }
 {
-    pair_back(a, words, b, other, part, Selection::Difference)
+    pair_step(a, words, b, other, part, Selection::Difference, End::Back)
 }

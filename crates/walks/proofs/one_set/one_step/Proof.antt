@@ -1,9 +1,9 @@
--- `walks::one_set::one_back` meets its contract. Assumes nothing.
+-- `walks::one_set::one_step` meets its contract. Assumes nothing.
 use mathlib.Core.Path.{sym, ap, _∙_}
 use mathlib.Core.Bool.{Bool}
 use Prim.Native.Nat.{ℕ}
 use denote.Ref.{now}
-use Rattle.sets.specs.Members.{read}
+use Rattle.sets.specs.Members.{bitOf, read}
 use Rattle.sets.specs.Questions.{questions}
 use Rattle.walks.specs.Rules.{partQuestion}
 use Rattle.sets.proofs.OutcomeLaws.{given-no, given-yes}
@@ -11,12 +11,12 @@ use Rattle.sets.proofs.QuestionLaws.{first-both}
 use Rattle.sets.proofs.ReadLaws.{read-below}
 use Rattle.parts.specs.Selections.{selected}
 use Rattle.parts.specs.declared.records.Step.{Step}
-use Rattle.parts.proofs.PartLaws.{back-ext}
+use Rattle.parts.proofs.PartLaws.{step-ext}
 use Rattle.walks.proofs.WalkLaws.{part-within}
 use borrow.Author.Needs.{needs}
 use native.Mathlib.Omega.{arith}
-use Rattle.walks.proofs.one_set.one_back.Statement.{statement}
-use Rattle.walks.proofs.one_set.one_back.Tie as tie
+use Rattle.walks.proofs.one_set.one_step.Statement.{statement}
+use Rattle.walks.proofs.one_set.one_step.Tie as tie
 
 ask-one-requires : tie.Need-ask-one-requires
 ask-one-requires c κs = search needs
@@ -24,8 +24,8 @@ ask-one-requires c κs = search needs
 returns : tie.Need-returns
 returns c = given-no (λ m. record { number = m; at = _; part = _ }) _ (c .before .ask-one .ensures) (c .if1 .taken)
 
-back-selected-requires : tie.Need-back-selected-requires
-back-selected-requires c κs = search needs
+step-selected-requires : tie.Need-step-selected-requires
+step-selected-requires c κs = search needs
 
 returns-2 : tie.Need-returns-2
 returns-2 c =
@@ -35,9 +35,9 @@ returns-2 c =
     let high = part-within (a .set) (a .part) (first-both (questions (a .set) ws) (partQuestion (a .set) (a .part)) (sym asked) .1) in
     given-yes _ asked
     (ap (λ (s : Step). record { number = 0; at = s .at; part = s .part })
-    (c .before .back-selected .ensures
-    ∙ back-ext _ (λ p. selected (a .selection) (read ws (a .set) .has p) (read ws (a .set) .has p)) (a .part)
-    (λ p l h. ap (λ (b : Bool). selected (a .selection) b b) (sym (read-below ws (a .set) p (omega (arith, high)))))))
+    (c .before .step-selected .ensures
+    ∙ step-ext (λ p. selected (a .selection) (bitOf ws p) (bitOf ws p)) (λ p. selected (a .selection) (read ws (a .set) .has p) (read ws (a .set) .has p)) (a .part)
+    (λ p l h. ap (λ (b : Bool). selected (a .selection) b b) (sym (read-below ws (a .set) p (omega (arith, high))))) (a .end)))
 
-pub one-back-spec : {M : Type 1} → statement M
-one-back-spec = tie.close (tie.spec ask-one-requires returns back-selected-requires returns-2)
+pub one-step-spec : {M : Type 1} → statement M
+one-step-spec = tie.close (tie.spec ask-one-requires returns step-selected-requires returns-2)

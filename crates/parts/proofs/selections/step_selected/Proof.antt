@@ -1,0 +1,59 @@
+-- `parts::step_selected` meets its contract. Assumes nothing.
+use mathlib.Core.Path.{ap, _∙_, fun-ext}
+use mathlib.Core.Bool.{Bool}
+use Prim.Native.Nat.{ℕ}
+use denote.Ref.{now}
+use Rattle.parts.specs.Selections.{row, selectedAt}
+use Rattle.parts.specs.Steps.{front, back}
+use Rattle.parts.specs.declared.records.Chosen.{Chosen}
+use Rattle.parts.proofs.SelectLaws.{chosen-row}
+use borrow.Author.Needs.{needs}
+use Rattle.parts.proofs.selections.step_selected.Statement.{statement}
+use Rattle.parts.proofs.selections.step_selected.Tie as tie
+
+chosen-requires : tie.Need-chosen-requires
+chosen-requires c κs = search needs
+
+enum-told : tie.Need-enum-told
+enum-told c = search needs
+
+front-step-requires : tie.Need-front-step-requires
+front-step-requires c κs = search needs
+
+enum-told-2 : tie.Need-enum-told-2
+enum-told-2 c = search needs
+
+back-step-requires : tie.Need-back-step-requires
+back-step-requires c κs = search needs
+
+returns : tie.Need-returns
+returns c =
+    let a = c .before .before .before .before .before .before .args in
+    let ws = now (a .words) in
+    let vs = now (a .other) in
+    rw (c .before .enum-told .given .1)
+    (c .front-step .ensures
+    ∙ ap (λ (m : Chosen). front (row (selectedAt (m .flip) (m .away) (m .all) ws vs)) (a .part)) (c .before .before .before .chosen .ensures)
+    ∙ ap (λ (f : ℕ → Bool). front f (a .part)) (fun-ext (chosen-row (a .selection) ws vs)))
+
+returns-2 : tie.Need-returns-2
+returns-2 c =
+    let a = c .before .before .before .before .before .before .args in
+    let ws = now (a .words) in
+    let vs = now (a .other) in
+    rw (c .before .enum-told2 .given .1)
+    (c .back-step .ensures
+    ∙ ap (λ (m : Chosen). back (row (selectedAt (m .flip) (m .away) (m .all) ws vs)) (a .part)) (c .before .before .before .chosen .ensures)
+    ∙ ap (λ (f : ℕ → Bool). back f (a .part)) (fun-ext (chosen-row (a .selection) ws vs)))
+
+pub step-selected-spec : {M : Type 1} → statement M
+step-selected-spec =
+    tie.close
+    (tie.spec
+    chosen-requires
+    enum-told
+    front-step-requires
+    enum-told-2
+    back-step-requires
+    returns
+    returns-2)
