@@ -1,0 +1,26 @@
+-- `two_set_counts::rests::ones_from` meets its contract. Assumes nothing.
+use mathlib.Core.Path.{ap, _∙_}
+use Prim.Native.Nat.{ℕ}
+use denote.Ref.{now}
+use Rattle.sets.specs.declared.answers.Counted.{Counted}
+use Rattle.queries.specs.Rules.{countOnesRule}
+use Rattle.two_set_counts.proofs.RestLaws.{counted-from}
+use borrow.Author.Needs.{needs}
+use Rattle.two_set_counts.proofs.rests.ones_from.Statement.{statement}
+use Rattle.two_set_counts.proofs.rests.ones_from.Tie as tie
+
+lesser-requires : tie.Need-lesser-requires
+lesser-requires c κs = search needs
+
+count-ones-requires : tie.Need-count-ones-requires
+count-ones-requires c κs = search needs
+
+returns : tie.Need-returns
+returns c =
+    let a = c .before .before .before .args in
+    ap (λ (r : Counted). r .count) (c .count-ones .ensures)
+    ∙ ap (λ (n : ℕ). countOnesRule (a .set) n (a .set .length) (now (a .words)) .count) (c .before .lesser .ensures)
+    ∙ counted-from (a .set) (now (a .words)) (a .start) (c .before .before .before .pre)
+
+pub ones-from-spec : {M : Type 1} → statement M
+ones-from-spec = tie.close (tie.spec lesser-requires count-ones-requires returns)

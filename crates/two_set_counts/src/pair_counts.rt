@@ -1,0 +1,63 @@
+use crate::common::ones_common;
+use crate::rests::ones_beyond;
+use blocks::lesser;
+use joins::Operation;
+use sets::Counted;
+use sets::FixedBitSet;
+use sets::blocks_of;
+use two_sets::check_both;
+ghost use mathlib.Core.Path.{_≡_};
+ghost use Rattle.two_set_counts.specs.Parts.{jointCountRule};
+ghost use Rattle.two_set_counts.specs.Rules.{unionCountRule, intersectionCountRule, differenceCountRule, symmetricDifferenceCountRule};
+
+// How many members the two sets joined have: those in the words of both, then those beyond.
+fn joint_count(
+    a: FixedBitSet,
+    words: &[u64],
+    b: FixedBitSet,
+    other: &[u64],
+    operation: Operation,
+) -> Counted
+    ensures { λ r. ⌜ r ≡ jointCountRule operation a (now (words .entry)) b (now (other .entry)) ⌝ }
+{
+    let number = check_both(a, words, b, other);
+    if number != 0 {
+        return Counted { number, count: 0 };
+    }
+    let blocks = lesser(blocks_of(a.length), blocks_of(b.length));
+    let shared = ones_common(words, other, blocks, operation);
+    let rest = ones_beyond(a, words, b, other, blocks * 64, operation);
+    Counted {
+        number: 0,
+        count: shared + rest,
+    }
+}
+
+pub fn union_count(a: FixedBitSet, words: &[u64], b: FixedBitSet, other: &[u64]) -> Counted
+    ensures { λ r. ⌜ r ≡ unionCountRule a (now (words .entry)) b (now (other .entry)) ⌝ }
+{
+    joint_count(a, words, b, other, Operation::Union)
+}
+
+pub fn intersection_count(a: FixedBitSet, words: &[u64], b: FixedBitSet, other: &[u64]) -> Counted
+    ensures { λ r. ⌜ r ≡ intersectionCountRule a (now (words .entry)) b (now (other .entry)) ⌝ }
+{
+    joint_count(a, words, b, other, Operation::Intersection)
+}
+
+pub fn difference_count(a: FixedBitSet, words: &[u64], b: FixedBitSet, other: &[u64]) -> Counted
+    ensures { λ r. ⌜ r ≡ differenceCountRule a (now (words .entry)) b (now (other .entry)) ⌝ }
+{
+    joint_count(a, words, b, other, Operation::Difference)
+}
+
+pub fn symmetric_difference_count(
+    a: FixedBitSet,
+    words: &[u64],
+    b: FixedBitSet,
+    other: &[u64],
+) -> Counted
+    ensures { λ r. ⌜ r ≡ symmetricDifferenceCountRule a (now (words .entry)) b (now (other .entry)) ⌝ }
+{
+    joint_count(a, words, b, other, Operation::SymmetricDifference)
+}
