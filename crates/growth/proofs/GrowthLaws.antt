@@ -28,7 +28,7 @@ pub cleared-write : (set : FixedBitSet) (ws : List ℕ) → Valid set ws → swe
 unfolding changed read
 cleared-write set ws v = zeroed-write (set .length) ws (v .enough)
 
-module _ (set : FixedBitSet) (ws : List ℕ) (v : Valid set ws) (n : ℕ) (r : Room (max (set .length) n) ws) where
+module _ (set : FixedBitSet) (ws : List ℕ) (v : Valid set ws) (n : ℕ) (r : Room (max (set .length) n) (length ws)) where
   grown-clipped : Clipped (grown n (read ws set))
   unfolding grown read
   grown-clipped = record { above = λ p h. read-above ws set p (omega arith) }

@@ -117,32 +117,32 @@ position-below set p e = go (lt-or-le p (set .length))
 -- ---- questions 6 and 7
 
 -- a new length that passes them
-pub record Room (n : ℕ) (ws : List ℕ) : Type 0 where
+pub record Room (n size : ℕ) : Type 0 where
   pub small : n ≤ 65536
-  pub enough : wordsOf n ≤ length ws
+  pub enough : wordsOf n ≤ size
 
-module _ (n : ℕ) (ws : List ℕ) where
-  pub question-6 : 65536 < n → newQuestions n ws ≡ 6
+module _ (n size : ℕ) where
+  pub question-6 : 65536 < n → newQuestions n size ≡ 6
   unfolding newLengthQuestion
   question-6 h = rw (no-of 6 (lt-leb n 65536 h))
 
-  pub question-7 : n ≤ 65536 → length ws < wordsOf n → newQuestions n ws ≡ 7
+  pub question-7 : n ≤ 65536 → size < wordsOf n → newQuestions n size ≡ 7
   unfolding newLengthQuestion roomQuestion
-  question-7 a h = rw (yes-of 6 (le-leb n 65536 a), no-of 7 (lt-leb (wordsOf n) (length ws) h))
+  question-7 a h = rw (yes-of 6 (le-leb n 65536 a), no-of 7 (lt-leb (wordsOf n) size h))
 
-  pub room-yes : Room n ws → newQuestions n ws ≡ 0
+  pub room-yes : Room n size → newQuestions n size ≡ 0
   unfolding newLengthQuestion roomQuestion
-  room-yes r = rw (yes-of 6 (le-leb n 65536 (r .small)), yes-of 7 (le-leb (wordsOf n) (length ws) (r .enough)))
+  room-yes r = rw (yes-of 6 (le-leb n 65536 (r .small)), yes-of 7 (le-leb (wordsOf n) size (r .enough)))
 
-  pub room : newQuestions n ws ≡ 0 → Room n ws
-  room e = go (lt-or-le 65536 n) (lt-or-le (length ws) (wordsOf n))
+  pub room : newQuestions n size ≡ 0 → Room n size
+  room e = go (lt-or-le 65536 n) (lt-or-le size (wordsOf n))
     where
-      go : (65536 < n) ⊎ (n ≤ 65536) → (length ws < wordsOf n) ⊎ (wordsOf n ≤ length ws) → Room n ws
+      go : (65536 < n) ⊎ (n ≤ 65536) → (size < wordsOf n) ⊎ (wordsOf n ≤ size) → Room n size
       go (inl a) w = absurd (omega (arith, question-6 a))
       go (inr a) (inl b) = absurd (omega (arith, question-7 a b))
       go (inr a) (inr b) = record { small = a; enough = b }
 
   -- a length that question 1 has passed is asked 7 alone
-  pub room-only : n ≤ 65536 → newQuestions n ws ≡ roomQuestion n ws
+  pub room-only : n ≤ 65536 → newQuestions n size ≡ roomQuestion n size
   unfolding newLengthQuestion
   room-only h = rw (yes-of 6 (le-leb n 65536 h))

@@ -37,9 +37,9 @@ unfoldable pub newLengthQuestion : ℕ → ℕ
 newLengthQuestion n = cond (leb n 65536) 0 6
 
 -- 7. Does the buffer to be written have the words for the new length?
-unfoldable pub roomQuestion : ℕ → List ℕ → ℕ
-roomQuestion n ws = cond (leb (wordsOf n) (length ws)) 0 7
+unfoldable pub roomQuestion : ℕ → ℕ → ℕ
+roomQuestion n size = cond (leb (wordsOf n) size) 0 7
 
--- 6 and 7, of a new length and the buffer that it needs
-abbrev pub newQuestions : ℕ → List ℕ → ℕ
-newQuestions n ws = first (newLengthQuestion n) (roomQuestion n ws)
+-- 6 and 7, of a new length and the number of words lent for it
+abbrev pub newQuestions : ℕ → ℕ → ℕ
+newQuestions n size = first (newLengthQuestion n) (roomQuestion n size)

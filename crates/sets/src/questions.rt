@@ -2,6 +2,7 @@ use crate::fixed_bit_set::FixedBitSet;
 use crate::sizes::blocks_of;
 use word_bits::low_mask;
 ghost use mathlib.Core.Path.{_≡_};
+ghost use lib.ListN.{length};
 ghost use Rattle.sets.specs.Questions.{questions, positionQuestion, newQuestions};
 
 // Questions 1 to 3. Only the last word can have a bit from the length up, and only where the length is no multiple of 64.
@@ -32,13 +33,13 @@ pub fn ask_position(set: FixedBitSet, bit: usize) -> u64
 }
 
 // Questions 6 and 7.
-pub fn ask_new(length: usize, words: &[u64]) -> u64
-    ensures { λ r. ⌜ r ≡ newQuestions length (now (words .entry)) ⌝ }
+pub fn ask_new(bits: usize, words: &[u64]) -> u64
+    ensures { λ r. ⌜ r ≡ newQuestions bits (length (now (words .entry))) ⌝ }
 {
-    if 65536 < length {
+    if 65536 < bits {
         return 6;
     }
-    if words.len() < blocks_of(length) {
+    if words.len() < blocks_of(bits) {
         return 7;
     }
     0

@@ -1,6 +1,7 @@
 -- The rule of each operation in place: a over ws, b over vs, the first set's questions first.
 use mathlib.Core.List.{List}
 use Prim.Native.Nat.{ℕ, max}
+use lib.ListN.{length}
 use Rattle.sets.specs.Members.{read}
 use Rattle.sets.specs.Questions.{first, questions, roomQuestion}
 use Rattle.sets.specs.Outcomes.{Outcome, edited}
@@ -13,7 +14,7 @@ bothQuestions a ws b vs = first (questions a ws) (questions b vs)
 
 -- then 7 of the larger length
 abbrev pub growingQuestions : FixedBitSet → List ℕ → FixedBitSet → List ℕ → ℕ
-growingQuestions a ws b vs = first (bothQuestions a ws b vs) (roomQuestion (max (a .length) (b .length)) ws)
+growingQuestions a ws b vs = first (bothQuestions a ws b vs) (roomQuestion (max (a .length) (b .length)) (length ws))
 
 abbrev pub unionWithRule : FixedBitSet → List ℕ → FixedBitSet → List ℕ → Outcome
 unionWithRule a ws b vs = edited (growingQuestions a ws b vs) a ws (unioned (read ws a) (read vs b))

@@ -3,6 +3,7 @@ use mathlib.Core.Path.{_≡_, sym, ap, ap₂, _∙_}
 use mathlib.Core.List.{List}
 use Prim.Native.Nat.{ℕ, max}
 use denote.Ref.{now}
+use lib.ListN.{length}
 use Rattle.blocks.specs.Sweeps.{swept}
 use Rattle.sets.specs.Members.{wordsOf, read, setOf, empty}
 use Rattle.sets.specs.Questions.{questions, newQuestions}
@@ -39,7 +40,7 @@ returns-2 : tie.Need-returns-2
 returns-2 c =
     given-no (λ m. record { number = m; set = c .before .before .before .before .before .before .before .before .args .set; words = now (c .before .before .before .before .before .before .before .before .args .words) }) _
     (first-yes (sym (c .before .before .before .before .before .check .ensures) ∙ c .before .before .before .before .if1 .left)
-    (c .before .ask-new .ensures ∙ ap (λ (n : ℕ). newQuestions n (now (c .before .before .before .before .before .before .before .before .args .words))) (c .before .before .before .larger .ensures))) (c .if2 .taken)
+    (c .before .ask-new .ensures ∙ ap (λ (n : ℕ). newQuestions n (length (now (c .before .before .before .before .before .before .before .before .args .words)))) (c .before .before .before .larger .ensures))) (c .if2 .taken)
 
 blocks-of-requires : tie.Need-blocks-of-requires
 blocks-of-requires c κs = search needs
@@ -63,7 +64,7 @@ returns-3 c =
     let ws = now (a .words) in
     let sound : questions (a .set) ws ≡ 0 = sym (c .before .before .before .before .before .before .before .before .before .before .before .before .check .ensures) ∙ c .before .before .before .before .before .before .before .before .before .before .before .if1 .left in
     let len = c .before .before .before .before .before .before .before .before .before .before .larger .ensures in
-    let asked = sym (c .before .before .before .before .before .before .before .if2 .left) ∙ c .before .before .before .before .before .before .before .before .ask-new .ensures ∙ ap (λ (n : ℕ). newQuestions n ws) len in
+    let asked = sym (c .before .before .before .before .before .before .before .if2 .left) ∙ c .before .before .before .before .before .before .before .before .ask-new .ensures ∙ ap (λ (n : ℕ). newQuestions n (length ws)) len in
     given-yes _ (first-yes sound asked)
     (ap₂ (λ (s : FixedBitSet) (w : List ℕ). record { number = 0; set = s; words = w })
     (c .new .ensures ∙ ap (λ (n : ℕ). setOf (empty n)) len)

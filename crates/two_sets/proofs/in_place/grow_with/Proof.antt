@@ -3,6 +3,7 @@ use mathlib.Core.Path.{_≡_, sym, ap, ap₂, _∙_}
 use mathlib.Core.List.{List}
 use Prim.Native.Nat.{ℕ, max}
 use denote.Ref.{now}
+use lib.ListN.{length}
 use Rattle.blocks.specs.Sweeps.{swept}
 use Rattle.sets.specs.Members.{wordsOf, read, setOf, empty}
 use Rattle.sets.specs.Questions.{newQuestions, roomQuestion}
@@ -48,7 +49,7 @@ returns-2 c =
     let v = both-valid (a .a) ws (a .b) vs sound in
     let len = c .before .before .before .larger .ensures in
     given-no (λ m. record { number = m; set = a .a; words = ws }) _
-    (first-yes sound (c .before .ask-new .ensures ∙ ap (λ (n : ℕ). newQuestions n ws) len ∙ room-only _ ws (omega (arith, v .one .small, v .two .small)))) (c .if2 .taken)
+    (first-yes sound (c .before .ask-new .ensures ∙ ap (λ (n : ℕ). newQuestions n (length ws)) len ∙ room-only _ _ (omega (arith, v .one .small, v .two .small)))) (c .if2 .taken)
 
 blocks-of-requires : tie.Need-blocks-of-requires
 blocks-of-requires c κs = search needs
@@ -68,7 +69,7 @@ join-in-place-requires c κs =
     let sound : bothQuestions (a .a) ws (a .b) vs ≡ 0 = sym (c .before .before .before .before .before .before .before .before .before .check-both .ensures) ∙ c .before .before .before .before .before .before .before .before .if1 .left in
     let v = both-valid (a .a) ws (a .b) vs sound in
     let len = c .before .before .before .before .before .before .before .larger .ensures in
-    let r = room _ ws (sym (c .before .before .before .before .before .ask-new .ensures) ∙ c .before .before .before .before .if2 .left) in (
+    let r = room _ _ (sym (c .before .before .before .before .before .ask-new .ensures) ∙ c .before .before .before .before .if2 .left) in (
       omega (arith, c .before .before .blocks-of .ensures, c .blocks-of3 .ensures),
       omega (arith, c .before .before .blocks-of .ensures, c .before .blocks-of2 .ensures, c .blocks-of3 .ensures),
       omega (arith, c .blocks-of3 .ensures, r .enough),
@@ -90,14 +91,14 @@ returns-3 c =
     let sound : bothQuestions (a .a) ws (a .b) vs ≡ 0 = sym (c .before .before .before .before .before .before .before .before .before .before .before .before .before .check-both .ensures) ∙ c .before .before .before .before .before .before .before .before .before .before .before .before .if1 .left in
     let v = both-valid (a .a) ws (a .b) vs sound in
     let len = c .before .before .before .before .before .before .before .before .before .before .before .larger .ensures in
-    let passed = sym (c .before .before .before .before .before .before .before .before .if2 .left) ∙ c .before .before .before .before .before .before .before .before .before .ask-new .ensures ∙ ap (λ (n : ℕ). newQuestions n ws) len in
+    let passed = sym (c .before .before .before .before .before .before .before .before .if2 .left) ∙ c .before .before .before .before .before .before .before .before .before .ask-new .ensures ∙ ap (λ (n : ℕ). newQuestions n (length ws)) len in
     let most = max (a .a .length) (a .b .length) in
-    given-yes _ (first-yes sound (passed ∙ room-only _ ws (omega (arith, v .one .small, v .two .small))))
+    given-yes _ (first-yes sound (passed ∙ room-only _ _ (omega (arith, v .one .small, v .two .small))))
     (ap₂ (λ (s : FixedBitSet) (w : List ℕ). record { number = 0; set = s; words = w })
     (c .new .ensures ∙ ap (λ (n : ℕ). setOf (empty n)) len)
     (c .before .before .before .join-in-place .ensures
     ∙ rw (c .before .before .before .before .before .before .blocks-of .ensures, c .before .before .before .before .before .blocks-of2 .ensures, c .before .before .before .before .blocks-of3 .ensures, len)
-    (joined-write (a .operation) (a .a) ws (a .b) vs (v .one) (v .two) most ws (room _ ws (sym passed) .enough))))
+    (joined-write (a .operation) (a .a) ws (a .b) vs (v .one) (v .two) most ws (room _ _ (sym passed) .enough))))
 
 pub grow-with-spec : {M : Type 1} → statement M
 grow-with-spec =
