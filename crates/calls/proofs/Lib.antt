@@ -1,0 +1,5 @@
+pub mod SoundLaws
+pub mod CallLaws
+pub mod HistoryLaws
+pub mod EncodingLaws
+pub mod ReplayLaws

@@ -1,0 +1,73 @@
+use edits::copy_bit;
+use edits::insert;
+use edits::put;
+use edits::remove;
+use edits::set;
+use edits::toggle;
+use growth::clear;
+use growth::grow;
+use growth::grow_and_insert;
+use range_edits::insert_range;
+use range_edits::remove_range;
+use range_edits::set_range;
+use range_edits::toggle_range;
+use sets::Edited;
+use sets::FixedBitSet;
+use two_sets::difference_with;
+use two_sets::intersect_with;
+use two_sets::symmetric_difference_with;
+use two_sets::union_with;
+ghost use mathlib.Core.Path.{_≡_};
+ghost use Rattle.sets.specs.Outcomes.{outcome};
+ghost use Rattle.edits.specs.Rules.{putRule};
+ghost use Rattle.calls.specs.Encoding.{decode};
+ghost use Rattle.calls.specs.Rules.{decodedRule};
+
+fn put_only(target: FixedBitSet, words: &mut [u64], bit: usize) -> Edited
+    ensures { λ r. ⌜ outcome r (now (words .exit)) ≡ putRule target bit (now (words .entry)) .edit ⌝ }
+{
+    let replaced = put(target, words, bit);
+    let after = replaced.set;
+    Edited {
+        number: replaced.number,
+        set: after,
+    }
+}
+
+// The call of a number on the target, the other set read. An unknown number is no call.
+pub(crate) fn make_call(
+    target: FixedBitSet,
+    words: &mut [u64],
+    read: FixedBitSet,
+    other: &[u64],
+    code: u64,
+    x: usize,
+    y: usize,
+    z: bool,
+) -> Edited
+    ensures { λ r. ⌜ outcome r (now (words .exit)) ≡ decodedRule (decode code x y z) target (now (words .entry)) read (now (other .entry)) ⌝ }
+{
+    match code {
+        0 => insert(target, words, x),
+        1 => remove(target, words, x),
+        2 => put_only(target, words, x),
+        3 => toggle(target, words, x),
+        4 => set(target, words, x, z),
+        5 => copy_bit(target, words, x, y),
+        6 => insert_range(target, words, x, y),
+        7 => remove_range(target, words, x, y),
+        8 => toggle_range(target, words, x, y),
+        9 => set_range(target, words, x, y, z),
+        10 => clear(target, words),
+        11 => grow(target, words, x),
+        12 => grow_and_insert(target, words, x),
+        13 => union_with(target, words, read, other),
+        14 => intersect_with(target, words, read, other),
+        15 => difference_with(target, words, read, other),
+        16 => symmetric_difference_with(target, words, read, other),
+        _ => Edited {
+            number: 0,
+            set: target,
+        },
+    }
+}

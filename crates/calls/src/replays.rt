@@ -1,0 +1,103 @@
+use crate::one_call::make_call;
+use crate::records::Replayed;
+use sets::FixedBitSet;
+use two_sets::check_both;
+ghost use mathlib.Core.Path.{_≡_};
+ghost use lib.ListN.{length, drop};
+ghost use Rattle.sets.specs.Members.{read};
+ghost use Rattle.two_sets.specs.Rules.{bothQuestions};
+ghost use Rattle.calls.specs.History.{State, history};
+ghost use Rattle.calls.specs.Encoding.{decodeAll, decodeOne};
+ghost use Rattle.calls.specs.Rules.{replayOutcome, left, replayRule};
+
+// Five numbers: the set, the call, two numbers and a yes or no.
+fn replay_one(
+    a: FixedBitSet,
+    words: &mut [u64],
+    b: FixedBitSet,
+    other: &mut [u64],
+    on: u64,
+    code: u64,
+    x: usize,
+    y: usize,
+    z: u64,
+) -> Replayed
+    requires { ⌜ bothQuestions a (now words) b (now other) ≡ 0 ⌝ }
+    ensures { λ r. ⌜ replayOutcome r (now (words .exit)) (now (other .exit)) ≡ left (now (words .entry)) (now (other .entry)) (history (length (now (words .entry))) (length (now (other .entry))) (decodeOne on code x y z) (record { a = read (now (words .entry)) a; b = read (now (other .entry)) b })) ⌝ }
+{
+    if on == 0 {
+        let edited = make_call(a, words, b, other, code, x, y, z != 0);
+        let after = edited.set;
+        return Replayed {
+            number: 0,
+            a: after,
+            b,
+        };
+    }
+    if on == 1 {
+        let edited = make_call(b, other, a, words, code, x, y, z != 0);
+        let after = edited.set;
+        return Replayed {
+            number: 0,
+            a,
+            b: after,
+        };
+    }
+    Replayed { number: 0, a, b }
+}
+
+// The calls of the numbers from `at` on.
+fn replay_all(
+    a: FixedBitSet,
+    words: &mut [u64],
+    b: FixedBitSet,
+    other: &mut [u64],
+    calls: &[u64],
+) -> Replayed
+    requires { ⌜ bothQuestions a (now words) b (now other) ≡ 0 ⌝ }
+    ensures { λ r. ⌜ replayOutcome r (now (words .exit)) (now (other .exit)) ≡ left (now (words .entry)) (now (other .entry)) (history (length (now (words .entry))) (length (now (other .entry))) (decodeAll (now (calls .entry))) (record { a = read (now (words .entry)) a; b = read (now (other .entry)) b })) ⌝ }
+{
+    let mut first = a;
+    let mut second = b;
+    let mut at = 0;
+    while 5 <= calls.len() - at {
+        let made = replay_one(
+            first,
+            words,
+            second,
+            other,
+            calls[at],
+            calls[at + 1],
+            calls[at + 2] as usize,
+            calls[at + 3] as usize,
+            calls[at + 4],
+        );
+        let one = made.a;
+        let two = made.b;
+        first = one;
+        second = two;
+        at = at + 5;
+    }
+    Replayed {
+        number: 0,
+        a: first,
+        b: second,
+    }
+}
+
+// The calls of a list of numbers, five for each call, one after the other; each gets what the ones before it left.
+pub fn replay(
+    a: FixedBitSet,
+    words: &mut [u64],
+    b: FixedBitSet,
+    other: &mut [u64],
+    calls: &[u64],
+) -> Replayed
+    ensures { λ r. ⌜ replayOutcome r (now (words .exit)) (now (other .exit)) ≡ replayRule a (now (words .entry)) b (now (other .entry)) (now (calls .entry)) ⌝ }
+{
+    let number = check_both(a, words, b, other);
+    if number != 0 {
+        return Replayed { number, a, b };
+    }
+    replay_all(a, words, b, other, calls)
+}

@@ -1,0 +1,2 @@
+pub mod WalkerLaws
+mod EndLaws
