@@ -60,3 +60,7 @@ unionNextBackRule a ws b vs one two = steppedPair (pairQuestions a ws b vs one t
 abbrev pub symmetricDifferenceNextRule : FixedBitSet → List ℕ → FixedBitSet → List ℕ → Part → Part → SteppedPair
 symmetricDifferenceNextRule a ws b vs one two =
     steppedPair (pairQuestions a ws b vs one two) one two (frontPair (without (read ws a) (read vs b)) (without (read vs b) (read ws a)) one two)
+
+abbrev pub symmetricDifferenceNextBackRule : FixedBitSet → List ℕ → FixedBitSet → List ℕ → Part → Part → SteppedPair
+symmetricDifferenceNextBackRule a ws b vs one two =
+    steppedPair (pairQuestions a ws b vs one two) one two (backPair (without (read ws a) (read vs b)) (without (read vs b) (read ws a)) one two)

@@ -4,5 +4,6 @@ mod steps;
 
 pub use records::SteppedPair;
 pub use steps::symmetric_difference_next;
+pub use steps::symmetric_difference_next_back;
 pub use steps::union_next;
 pub use steps::union_next_back;

@@ -12,7 +12,7 @@ ghost use mathlib.Core.Path.{_≡_};
 ghost use Prim.Native.Nat.{ℕ};
 ghost use Rattle.sets.specs.Members.{read};
 ghost use Rattle.parts.specs.Selections.{selected};
-ghost use Rattle.two_part_walks.specs.Rules.{frontPair, backPair, steppedPair, pairQuestions, without, unionNextRule, unionNextBackRule, symmetricDifferenceNextRule};
+ghost use Rattle.two_part_walks.specs.Rules.{frontPair, backPair, steppedPair, pairQuestions, without, unionNextRule, unionNextBackRule, symmetricDifferenceNextRule, symmetricDifferenceNextBackRule};
 
 fn ask_parts(
     a: FixedBitSet,
@@ -172,4 +172,17 @@ pub fn symmetric_difference_next(
     ensures { λ r. ⌜ r ≡ symmetricDifferenceNextRule a (now (words .entry)) b (now (other .entry)) one two ⌝ }
 {
     front_pair(a, words, b, other, one, two, Selection::Difference)
+}
+
+pub fn symmetric_difference_next_back(
+    a: FixedBitSet,
+    words: &[u64],
+    b: FixedBitSet,
+    other: &[u64],
+    one: Part,
+    two: Part,
+) -> SteppedPair
+    ensures { λ r. ⌜ r ≡ symmetricDifferenceNextBackRule a (now (words .entry)) b (now (other .entry)) one two ⌝ }
+{
+    back_pair(a, words, b, other, one, two, Selection::Difference)
 }

@@ -30,13 +30,13 @@ unfolding count
 count-both zero f g h e = refl
 count-both (suc n) f g h e = let ih = count-both n f g h e in omega (arith, ih, e n)
 
-either : (a b : Bool) → one a + one (b && not a) ≡ one (a || b)
+pub either : (a b : Bool) → one a + one (b && not a) ≡ one (a || b)
 either true true = refl
 either true false = refl
 either false true = refl
 either false false = refl
 
-one-alone : (a b : Bool) → one (a && not b) + one (b && not a) ≡ one (xor a b)
+pub one-alone : (a b : Bool) → one (a && not b) + one (b && not a) ≡ one (xor a b)
 unfolding xor
 one-alone true true = refl
 one-alone true false = refl

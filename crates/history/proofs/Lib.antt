@@ -1,0 +1,3 @@
+pub mod DemandLaws
+pub mod RunLaws
+pub mod Examples

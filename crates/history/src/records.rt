@@ -1,0 +1,9 @@
+use sets::FixedBitSet;
+
+// Both sets after a history, and the count of the walk after it.
+pub struct Ran {
+    pub number: u64,
+    pub a: FixedBitSet,
+    pub b: FixedBitSet,
+    pub count: usize,
+}

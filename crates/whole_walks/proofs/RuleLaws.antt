@@ -1,0 +1,96 @@
+-- The rules of a walk's step and of its count over sets that pass their questions, and question 7 of the buffer for the answers. Assumes nothing.
+use mathlib.Core.Path.{_≡_, sym, ap, _∙_}
+use mathlib.Core.Bool.{Bool, cond, _&&_}
+use mathlib.Core.List.{List}
+use Prim.Native.Nat.{ℕ, _≤_, _<_}
+use native.Mathlib.Nat.{le-refl}
+use native.Mathlib.Omega.{arith}
+use borrow.Author.Tests.{le-leb, lt-leb}
+use lib.ListN.{length}
+use Rattle.word_bits.proofs.Ones.{count-ext}
+use Rattle.masks.specs.Ranges.{covers}
+use Rattle.masks.proofs.RangeLaws.{covers-yes, range-yes}
+use Rattle.sets.specs.Members.{read}
+use Rattle.sets.specs.Outcomes.{given}
+use Rattle.sets.specs.Questions.{questions}
+use Rattle.sets.specs.declared.fixed_bit_set.FixedBitSet.{FixedBitSet}
+use Rattle.sets.proofs.QuestionLaws.{first-yes, valid-yes}
+use Rattle.queries.specs.Queries.{onesIn}
+use Rattle.queries.specs.Rules.{rangeQuestions}
+use Rattle.two_sets.specs.Rules.{bothQuestions}
+use Rattle.two_sets.proofs.SetJoins.{both-valid}
+use Rattle.two_set_counts.specs.Lists.{onesList}
+use Rattle.two_set_counts.proofs.ListLaws.{length-positions}
+use Rattle.parts.specs.declared.records.End.{End}
+use Rattle.parts.specs.declared.records.End.the-variants.{Front, Back}
+use Rattle.parts.specs.declared.records.Part.{Part}
+use Rattle.walks.specs.Rules.{partQuestion, oneQuestions, twoQuestions}
+use Rattle.walks.specs.declared.records.Stepped.{Stepped}
+use Rattle.two_part_walks.specs.Rules.{PairStep, pairQuestions}
+use Rattle.two_part_walks.specs.declared.records.SteppedPair.{SteppedPair}
+use Rattle.whole_walks.specs.Walks.{walkList, walkStep}
+use Rattle.whole_walks.specs.Rules.{alone, walkStepRule, walkCountRule, answersQuestion}
+use Rattle.whole_walks.specs.declared.records.Walk.{Walk}
+use Rattle.whole_walks.specs.declared.records.Walk.the-variants.{Ones, Intersection, Difference, Union, SymmetricDifference}
+
+pub alone-of : {r : SteppedPair} {s t : Stepped} {two : Part} → r ≡ alone s two → s ≡ t → r ≡ alone t two
+alone-of {two = two} e f = e ∙ ap (λ (s : Stepped). alone s two) f
+
+-- a step that is not refused
+abbrev pub accepted : PairStep → SteppedPair
+accepted s = record { number = 0; at = s .at; one = s .one; two = s .two }
+
+module _ (a : FixedBitSet) (ws : List ℕ) (b : FixedBitSet) (vs : List ℕ) (ok : bothQuestions a ws b vs ≡ 0) where
+  own : questions a ws ≡ 0
+  own = valid-yes a ws (both-valid a ws b vs ok .one)
+
+  module _ (one two : Part) (p : partQuestion a one ≡ 0) (q : partQuestion b two ≡ 0) where
+    one-asked : oneQuestions a ws one ≡ 0
+    one-asked = sym (first-yes own (sym p))
+
+    two-asked : twoQuestions a ws b vs one ≡ 0
+    two-asked = sym (first-yes ok (sym p))
+
+    pair-asked : pairQuestions a ws b vs one two ≡ 0
+    pair-asked = sym (first-yes ok (first-yes p (sym q)))
+
+    pub step-accepted : (walk : Walk) (end : End) → walkStepRule walk end a ws b vs one two ≡ accepted (walkStep walk end (read ws a) (read vs b) one two)
+    unfolding given
+    step-accepted Ones Front = rw one-asked
+    step-accepted Ones Back = rw one-asked
+    step-accepted Intersection Front = rw two-asked
+    step-accepted Intersection Back = rw two-asked
+    step-accepted Difference Front = rw two-asked
+    step-accepted Difference Back = rw two-asked
+    step-accepted Union Front = rw pair-asked
+    step-accepted Union Back = rw pair-asked
+    step-accepted SymmetricDifference Front = rw pair-asked
+    step-accepted SymmetricDifference Back = rw pair-asked
+
+  -- `count_ones` over all of A
+  all-asked : rangeQuestions a 0 (a .length) ws ≡ 0
+  all-asked = sym (first-yes own (sym (range-yes 0 (a .length) (a .length) (omega arith) (le-refl (a .length)))))
+
+  ones-size : onesIn 0 (a .length) (read ws a) ≡ length (onesList (read ws a))
+  unfolding read
+  ones-size =
+      count-ext (a .length) (λ p. covers 0 (a .length) p && read ws a .has p) (read ws a .has)
+      (λ p l. ap (λ (t : Bool). t && read ws a .has p) (covers-yes 0 (a .length) p (omega arith) l))
+      ∙ sym (length-positions (a .length) (read ws a .has))
+
+  pub count-accepted : (walk : Walk) → walkCountRule walk a ws b vs ≡ record { number = 0; count = length (walkList walk (read ws a) (read vs b)) }
+  unfolding given
+  count-accepted Ones = rw (all-asked, ones-size)
+  count-accepted Intersection = rw ok
+  count-accepted Difference = rw ok
+  count-accepted Union = rw ok
+  count-accepted SymmetricDifference = rw ok
+
+module _ (steps size : ℕ) where
+  pub answers-yes : steps ≤ size → answersQuestion steps size ≡ 0
+  unfolding answersQuestion
+  answers-yes h = ap (λ (t : Bool). cond t 0 7) (le-leb steps size h)
+
+  pub answers-no : size < steps → answersQuestion steps size ≡ 7
+  unfolding answersQuestion
+  answers-no h = ap (λ (t : Bool). cond t 0 7) (lt-leb steps size h)

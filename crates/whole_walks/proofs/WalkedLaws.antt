@@ -1,0 +1,109 @@
+-- A walk with any mix of front and back steps answers what it has to. Assumes nothing.
+use mathlib.Core.Path.{_≡_, refl, sym, ap, ap₂, _∙_}
+use mathlib.Core.Bool.{true, _&&_}
+use mathlib.Core.List.{List, [], _∷_, _++_, reverse, reverse-cons, append-assoc, append-nil}
+use Prim.Native.Nat.{ℕ, zero, suc, _+_, _<_}
+use native.Mathlib.Nat.{not-suc-le-zero, le-of-suc-le-suc, zero-add, suc-add}
+use native.Mathlib.Omega.{arith}
+use borrow.Author.Tests.{ne-eqb}
+use lib.Dec.{eqb, eqb·suc-suc}
+use lib.ListN.{length, getD, take, length-append}
+use Rattle.sets.specs.Members.{Members, setOf}
+use Rattle.sets.proofs.WriteLaws.{Clipped}
+use Rattle.queries.specs.declared.found.Position.{Position}
+use Rattle.queries.specs.declared.found.Position.the-variants.{At, Nothing}
+use Rattle.two_set_counts.specs.Lists.{onesList, intersectionList, differenceList}
+use Rattle.parts.specs.declared.records.End.{End}
+use Rattle.parts.specs.declared.records.End.the-variants.{Front, Back}
+use Rattle.parts.specs.declared.records.Part.{Part}
+use Rattle.walks.specs.Rules.{firstPart}
+use Rattle.two_part_walks.specs.Rules.{without}
+use Rattle.whole_walks.specs.Walks.{walkList, firstList, secondList, walkStep, answersFrom, answers}
+use Rattle.whole_walks.specs.Walked.{position, isNothing, fronts, backs, given, rising, Walked}
+use Rattle.whole_walks.specs.declared.records.Walk.{Walk}
+use Rattle.whole_walks.specs.declared.records.Walk.the-variants.{Ones, Intersection, Difference, Union, SymmetricDifference}
+use Rattle.whole_walks.proofs.PartSteps.{Taken}
+use Rattle.whole_walks.proofs.WalkSteps.{remaining, remaining-first, walk-taken}
+use Rattle.whole_walks.proofs.Occurrences.{exact, rises}
+
+eqb-add : (c m n : ℕ) → eqb (c + m) (c + n) ≡ eqb m n
+eqb-add zero m n = ap₂ eqb (zero-add m) (zero-add n)
+eqb-add (suc c) m n = ap₂ eqb (suc-add c m) (suc-add c n) ∙ eqb·suc-suc (c + m) (c + n) ∙ eqb-add c m n
+
+-- ---- steps from any records on: the list left before them, by what they gave
+
+record Run (ends : List End) (xs : List Position) (whole : List ℕ) : Type 0 where
+  answered : length xs ≡ length ends
+  left : List ℕ
+  in-order : fronts ends xs ++ left ++ reverse (backs ends xs) ≡ whole
+  none : (k : ℕ) → k < length ends → isNothing (getD xs k Nothing) ≡ eqb (given (take k xs)) (length whole)
+
+-- one step, and those after it
+module _ (whole rest : List ℕ) where
+  taken-length : (x : Position) (end : End) → Taken x end whole rest → length whole ≡ length (position x) + length rest
+  taken-length (At p) Front t = ap length t ∙ omega arith
+  taken-length (At p) Back t = ap length t ∙ length-append rest (p ∷ []) ∙ omega arith
+  taken-length Nothing end t = omega (arith, ap length (t .0), ap length (t .1))
+
+  taken-none : (x : Position) (end : End) → Taken x end whole rest → isNothing x ≡ eqb 0 (length whole)
+  taken-none (At p) end t = sym (ne-eqb 0 (length whole) (λ e. omega (arith, taken-length (At p) end t)))
+  taken-none Nothing end t = sym (ap (λ (ys : List ℕ). eqb 0 (length ys)) (t .0))
+
+  module _ (ends : List End) (xs : List Position) where
+    ordered : (x : Position) (end : End) → Taken x end whole rest → (left : List ℕ) → fronts ends xs ++ left ++ reverse (backs ends xs) ≡ rest
+        → fronts (end ∷ ends) (x ∷ xs) ++ left ++ reverse (backs (end ∷ ends) (x ∷ xs)) ≡ whole
+    ordered (At p) Front t left e = ap (λ (ys : List ℕ). p ∷ ys) e ∙ sym t
+    ordered (At p) Back t left e =
+        ap (λ (ys : List ℕ). fronts ends xs ++ left ++ ys) (reverse-cons p (backs ends xs))
+        ∙ sym (append-assoc (fronts ends xs ++ left) (reverse (backs ends xs)) (p ∷ [])) ∙ ap (λ (ys : List ℕ). ys ++ (p ∷ [])) e ∙ sym t
+    ordered Nothing Front t left e = e ∙ t .1 ∙ sym (t .0)
+    ordered Nothing Back t left e = e ∙ t .1 ∙ sym (t .0)
+
+    one-more : (x : Position) (end : End) → Taken x end whole rest → Run ends xs rest → Run (end ∷ ends) (x ∷ xs) whole
+    one-more x end t r = record { answered = ap suc (r .answered); left = r .left; in-order = ordered x end t (r .left) (r .in-order); none = go }
+      where
+        go : (k : ℕ) → k < suc (length ends) → isNothing (getD (x ∷ xs) k Nothing) ≡ eqb (given (take k (x ∷ xs))) (length whole)
+        go zero l = taken-none x end t
+        go (suc k) l =
+            r .none k (le-of-suc-le-suc l)
+            ∙ sym (ap (eqb (length (position x) + given (take k xs))) (taken-length x end t) ∙ eqb-add (length (position x)) (given (take k xs)) (length rest))
+
+module _ (walk : Walk) (a b : Members) where
+  run : (ends : List End) (one two : Part) → Run ends (answersFrom walk a b ends one two) (remaining walk a b one two)
+  unfolding answersFrom
+  run [] one two = record { answered = refl; left = remaining walk a b one two; in-order = append-nil (remaining walk a b one two); none = λ k l. absurd (not-suc-le-zero l) }
+  run (end ∷ ends) one two =
+      let s = walkStep walk end a b one two in
+      one-more (remaining walk a b one two) (remaining walk a b (s .one) (s .two)) ends (answersFrom walk a b ends (s .one) (s .two))
+      (s .at) end (walk-taken a b walk end one two) (run ends (s .one) (s .two))
+
+-- ---- the lists, by their parts
+
+module _ (a b : Members) where
+  in-parts : (walk : Walk) → firstList walk a b ++ secondList walk a b ≡ walkList walk a b
+  in-parts Ones = append-nil (onesList a)
+  in-parts Intersection = append-nil (intersectionList a b)
+  in-parts Difference = append-nil (differenceList a b)
+  in-parts Union = refl
+  in-parts SymmetricDifference = refl
+
+  parts-rise : (walk : Walk) → (rising (firstList walk a b) ≡ true) × (rising (secondList walk a b) ≡ true)
+  parts-rise Ones = (rises (a .has) (a .len), refl)
+  parts-rise Intersection = (rises (λ p. a .has p && b .has p) (a .len), refl)
+  parts-rise Difference = (rises (without a b) (a .len), refl)
+  parts-rise Union = (rises (a .has) (a .len), rises (without b a) (b .len))
+  parts-rise SymmetricDifference = (rises (without a b) (a .len), rises (without b a) (b .len))
+
+pub walked : (walk : Walk) (a b : Members) → Clipped a → Clipped b → (ends : List End) → Walked walk a b ends (answers walk a b ends) (length (walkList walk a b))
+walked walk a b ca cb ends =
+    let r : Run ends (answers walk a b ends) (walkList walk a b) = rw (remaining-first a b walk) at (run walk a b ends (firstPart (setOf a)) (firstPart (setOf b))) in
+    record {
+      answered = r .answered;
+      left = r .left;
+      in-order = r .in-order;
+      exactly = λ p. exact a b ca cb p walk;
+      parts = in-parts a b walk;
+      rises = parts-rise a b walk;
+      none = r .none;
+      counted = refl;
+    }

@@ -1,0 +1,85 @@
+-- The rule of a step and of the count of a walk, that of the call of its name, and the rule of a whole walk.
+use mathlib.Core.Bool.{cond}
+use mathlib.Core.List.{List, _++_, map}
+use Prim.Native.Nat.{ℕ, _-_, _^_}
+use lib.Dec.{eqb, leb}
+use lib.ListN.{length, drop}
+use Rattle.sets.specs.Members.{read}
+use Rattle.sets.specs.Outcomes.{given}
+use Rattle.sets.specs.Questions.{first}
+use Rattle.sets.specs.declared.fixed_bit_set.FixedBitSet.{FixedBitSet}
+use Rattle.sets.specs.declared.answers.Counted.{Counted}
+use Rattle.queries.specs.Rules.{countOnesRule}
+use Rattle.queries.specs.declared.found.Position.{Position}
+use Rattle.queries.specs.declared.found.Position.the-variants.{At, Nothing}
+use Rattle.two_sets.specs.Rules.{bothQuestions}
+use Rattle.two_set_counts.specs.Rules.{unionCountRule, intersectionCountRule, differenceCountRule, symmetricDifferenceCountRule}
+use Rattle.parts.specs.declared.records.End.{End}
+use Rattle.parts.specs.declared.records.End.the-variants.{Front, Back}
+use Rattle.parts.specs.declared.records.Part.{Part}
+use Rattle.walks.specs.Rules.{onesNextRule, onesNextBackRule, intersectionNextRule, intersectionNextBackRule, differenceNextRule, differenceNextBackRule}
+use Rattle.walks.specs.declared.records.Stepped.{Stepped}
+use Rattle.two_part_walks.specs.Rules.{unionNextRule, unionNextBackRule, symmetricDifferenceNextRule, symmetricDifferenceNextBackRule}
+use Rattle.two_part_walks.specs.declared.records.SteppedPair.{SteppedPair}
+use Rattle.whole_walks.specs.Walks.{walkList, answers}
+use Rattle.whole_walks.specs.declared.records.Walk.{Walk}
+use Rattle.whole_walks.specs.declared.records.Walk.the-variants.{Ones, Intersection, Difference, Union, SymmetricDifference}
+
+-- a step of a walk of one part hands the second record back
+abbrev pub alone : Stepped → Part → SteppedPair
+alone s two = record { number = s .number; at = s .at; one = s .part; two = two }
+
+abbrev pub walkStepRule : Walk → End → FixedBitSet → List ℕ → FixedBitSet → List ℕ → Part → Part → SteppedPair
+walkStepRule Ones Front a ws b vs one two = alone (onesNextRule a ws one) two
+walkStepRule Ones Back a ws b vs one two = alone (onesNextBackRule a ws one) two
+walkStepRule Intersection Front a ws b vs one two = alone (intersectionNextRule a ws b vs one) two
+walkStepRule Intersection Back a ws b vs one two = alone (intersectionNextBackRule a ws b vs one) two
+walkStepRule Difference Front a ws b vs one two = alone (differenceNextRule a ws b vs one) two
+walkStepRule Difference Back a ws b vs one two = alone (differenceNextBackRule a ws b vs one) two
+walkStepRule Union Front a ws b vs one two = unionNextRule a ws b vs one two
+walkStepRule Union Back a ws b vs one two = unionNextBackRule a ws b vs one two
+walkStepRule SymmetricDifference Front a ws b vs one two = symmetricDifferenceNextRule a ws b vs one two
+walkStepRule SymmetricDifference Back a ws b vs one two = symmetricDifferenceNextBackRule a ws b vs one two
+
+-- `ones` is counted by `count_ones` over all of A, the others by the count of their name
+abbrev pub walkCountRule : Walk → FixedBitSet → List ℕ → FixedBitSet → List ℕ → Counted
+walkCountRule Ones a ws b vs = countOnesRule a 0 (a .length) ws
+walkCountRule Intersection a ws b vs = intersectionCountRule a ws b vs
+walkCountRule Difference a ws b vs = differenceCountRule a ws b vs
+walkCountRule Union a ws b vs = unionCountRule a ws b vs
+walkCountRule SymmetricDifference a ws b vs = symmetricDifferenceCountRule a ws b vs
+
+-- a step is one at the front for 0, and one at the back for any other number
+abbrev pub endOf : ℕ → End
+endOf n = cond (eqb n 0) Front Back
+
+-- an answer as a word: its position, or 2 ^ 64 - 1 for none
+abbrev pub answerWord : Position → ℕ
+answerWord (At p) = p
+answerWord Nothing = 2 ^ 64 - 1
+
+abbrev pub answerOf : ℕ → Position
+answerOf x = cond (eqb x (2 ^ 64 - 1)) Nothing (At x)
+
+-- 7, of the buffer for the answers: a word for each step
+unfoldable pub answersQuestion : ℕ → ℕ → ℕ
+answersQuestion steps size = cond (leb steps size) 0 7
+
+-- of a whole walk: its number, its count and the buffer for the answers after it
+pub record WalkOutcome : Type 0 where
+  pub number : ℕ
+  pub count : ℕ
+  pub out : List ℕ
+
+abbrev pub walkOutcome : Counted → List ℕ → WalkOutcome
+walkOutcome r out = record { number = r .number; count = r .count; out = out }
+
+-- questions 1 to 3 of A, then of B, then 7; refused, no word is written
+abbrev pub walkRule : Walk → FixedBitSet → List ℕ → FixedBitSet → List ℕ → List ℕ → List ℕ → WalkOutcome
+walkRule walk a ws b vs steps out =
+    given (first (bothQuestions a ws b vs) (answersQuestion (length steps) (length out))) (λ m. record { number = m; count = 0; out = out })
+    (record {
+      number = 0;
+      count = length (walkList walk (read ws a) (read vs b));
+      out = map answerWord (answers walk (read ws a) (read vs b) (map endOf steps)) ++ drop (length steps) out;
+    })

@@ -1,0 +1,8 @@
+// The walks that have steps at both ends.
+pub enum Walk {
+    Ones,
+    Intersection,
+    Difference,
+    Union,
+    SymmetricDifference,
+}
