@@ -1,5 +1,3 @@
-use crate::questions::ask_two;
-use crate::records::Stepped;
 use parts::End;
 use parts::Part;
 use parts::Selection;
@@ -7,12 +5,26 @@ use parts::step_selected;
 use queries::Position;
 use sets::FixedBitSet;
 use sets::as_slice;
+use two_sets::check_both;
+use walks::Stepped;
+use walks::ask_part;
 ghost use mathlib.Core.Path.{_≡_};
 ghost use Prim.Native.Nat.{ℕ};
 ghost use Rattle.sets.specs.Members.{read};
 ghost use Rattle.parts.specs.Selections.{selected};
 ghost use Rattle.parts.specs.Steps.{step};
-ghost use Rattle.walks.specs.Rules.{stepped, twoQuestions, intersectionNextRule, intersectionNextBackRule, differenceNextRule, differenceNextBackRule};
+ghost use Rattle.walks.specs.Rules.{stepped};
+ghost use Rattle.pair_walks.specs.Rules.{twoQuestions, intersectionNextRule, intersectionNextBackRule, differenceNextRule, differenceNextBackRule};
+
+fn ask_two(a: FixedBitSet, words: &[u64], b: FixedBitSet, other: &[u64], part: Part) -> u64
+    ensures { λ r. ⌜ r ≡ twoQuestions a (now (words .entry)) b (now (other .entry)) part ⌝ }
+{
+    let number = check_both(a, words, b, other);
+    if number != 0 {
+        return number;
+    }
+    ask_part(a, part)
+}
 
 fn pair_step(
     a: FixedBitSet,

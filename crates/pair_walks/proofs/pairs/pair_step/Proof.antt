@@ -1,4 +1,4 @@
--- `walks::pairs::pair_step` meets its contract. Assumes nothing.
+-- `pair_walks::pairs::pair_step` meets its contract. Assumes nothing.
 use mathlib.Core.Path.{sym, ap, _∙_}
 use mathlib.Core.Bool.{Bool}
 use mathlib.Core.List.{List}
@@ -13,11 +13,11 @@ use Rattle.parts.specs.Selections.{selected}
 use Rattle.parts.specs.Steps.{step}
 use Rattle.parts.specs.declared.records.Step.{Step}
 use Rattle.parts.proofs.PartLaws.{step-ext}
 use Rattle.walks.proofs.WalkLaws.{part-within, own-words, own-bits}
 use borrow.Author.Needs.{needs}
 use native.Mathlib.Omega.{arith}
-use Rattle.walks.proofs.pairs.pair_step.Statement.{statement}
-use Rattle.walks.proofs.pairs.pair_step.Tie as tie
+use Rattle.pair_walks.proofs.pairs.pair_step.Statement.{statement}
+use Rattle.pair_walks.proofs.pairs.pair_step.Tie as tie
 
 ask-two-requires : tie.Need-ask-two-requires
 ask-two-requires c κs = search needs

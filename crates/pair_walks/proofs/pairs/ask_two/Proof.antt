@@ -1,9 +1,9 @@
--- `walks::questions::ask_two` meets its contract. Assumes nothing.
+-- `pair_walks::pairs::ask_two` meets its contract. Assumes nothing.
 use mathlib.Core.Path.{sym, _∙_}
 use Rattle.sets.proofs.QuestionLaws.{first-no, first-yes}
 use borrow.Author.Needs.{needs}
-use Rattle.walks.proofs.questions.ask_two.Statement.{statement}
-use Rattle.walks.proofs.questions.ask_two.Tie as tie
+use Rattle.pair_walks.proofs.pairs.ask_two.Statement.{statement}
+use Rattle.pair_walks.proofs.pairs.ask_two.Tie as tie
 
 check-both-requires : tie.Need-check-both-requires
 check-both-requires c κs = search needs
