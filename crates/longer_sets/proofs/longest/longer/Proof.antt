@@ -1,12 +1,12 @@
--- `comparisons::longer` meets its contract. Assumes nothing.
+-- `longer_sets::longer` meets its contract. Assumes nothing.
 use mathlib.Core.Path.{_∙_}
 use mathlib.Core.List.{[]}
 use denote.Ref.{now}
 use Rattle.sets.proofs.OutcomeLaws.{given-no}
-use Rattle.comparisons.proofs.SliceLaws.{longer-first, longer-second}
+use Rattle.longer_sets.proofs.SliceLaws.{longer-first, longer-second}
 use borrow.Author.Needs.{needs}
-use Rattle.comparisons.proofs.longest.longer.Statement.{statement}
-use Rattle.comparisons.proofs.longest.longer.Tie as tie
+use Rattle.longer_sets.proofs.longest.longer.Statement.{statement}
+use Rattle.longer_sets.proofs.longest.longer.Tie as tie
 
 check-both-requires : tie.Need-check-both-requires
 check-both-requires c κs = search needs

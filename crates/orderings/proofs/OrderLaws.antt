@@ -20,8 +20,8 @@ use Rattle.joins.specs.Operations.{joinedWord}
 use Rattle.joins.specs.declared.operation.Operation.the-variants.{SymmetricDifference}
 use Rattle.two_sets.proofs.SetJoins.{BothValid}
 use Rattle.joins.proofs.WordJoins.{joined-digit, joined-is}
-use Rattle.comparisons.specs.Relations.{orderOf, wordsOrder, order}
 use Rattle.comparisons.proofs.SearchLaws.{FirstMasked, FirstJoin, first-symmetric}
+use Rattle.orderings.specs.Orders.{orderOf, wordsOrder, order}
 
 -- ---- two numbers
 

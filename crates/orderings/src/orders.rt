@@ -1,4 +1,4 @@
-use crate::search::first_joined;
+use comparisons::first_joined;
 use sets::FixedBitSet;
 use sets::Told;
 use sets::blocks_of;
@@ -8,8 +8,8 @@ ghost use Prim.Native.Nat.{_≤_};
 ghost use lib.ListN.{length};
 ghost use Rattle.sets.specs.Members.{bitOf, read};
 ghost use Rattle.sets.specs.Questions.{questions};
-ghost use Rattle.comparisons.specs.Relations.{equal, wordsOrder, order};
-ghost use Rattle.comparisons.specs.Rules.{eqRule, cmpRule};
+ghost use Rattle.orderings.specs.Orders.{equal, wordsOrder, order};
+ghost use Rattle.orderings.specs.Rules.{eqRule, cmpRule};
 
 // The order is 0 for equal, 1 for below, 2 for above: 0 where refused.
 pub struct Compared {

@@ -1,10 +1,10 @@
--- `comparisons::orders::same` meets its contract. Assumes nothing.
+-- `orderings::orders::same` meets its contract. Assumes nothing.
 use denote.Ref.{now}
-use Rattle.comparisons.proofs.EqualLaws.{equal-no, equal-is}
 use Rattle.comparisons.proofs.SearchLaws.{both-of, same-common, common-lent, first-symmetric}
+use Rattle.orderings.proofs.EqualLaws.{equal-no, equal-is}
 use borrow.Author.Needs.{needs}
-use Rattle.comparisons.proofs.orders.same.Statement.{statement}
-use Rattle.comparisons.proofs.orders.same.Tie as tie
+use Rattle.orderings.proofs.orders.same.Statement.{statement}
+use Rattle.orderings.proofs.orders.same.Tie as tie
 
 returns : tie.Need-returns
 returns c = equal-no _ _ _ _ (c .if1 .taken)

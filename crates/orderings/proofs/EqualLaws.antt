@@ -14,9 +14,9 @@ use Rattle.sets.specs.declared.fixed_bit_set.FixedBitSet.{FixedBitSet}
 use Rattle.sets.proofs.WordLaws.{words-hold}
 use Rattle.queries.proofs.RowLaws.{all-not-some}
 use Rattle.joins.specs.declared.operation.Operation.the-variants.{SymmetricDifference}
-use Rattle.comparisons.specs.Relations.{equal}
 use Rattle.comparisons.proofs.RelationLaws.{member-below}
 use Rattle.comparisons.proofs.SearchLaws.{Searched, joinedAt, joined-some, joined-none}
+use Rattle.orderings.specs.Orders.{equal}
 
 members-by : (s o : Members) → all (s .len) (λ p. Bool·beq (s .has p) (o .has p)) ≡ not (some (s .len) (joinedAt SymmetricDifference s o))
 unfolding xor

@@ -1,9 +1,9 @@
--- `comparisons::orders::words_order` meets its contract. Assumes nothing.
+-- `orderings::orders::words_order` meets its contract. Assumes nothing.
 use denote.Ref.{now}
-use Rattle.comparisons.proofs.OrderLaws.{none-differ, word-below, word-above}
+use Rattle.orderings.proofs.OrderLaws.{none-differ, word-below, word-above}
 use borrow.Author.Needs.{needs}
-use Rattle.comparisons.proofs.orders.words_order.Statement.{statement}
-use Rattle.comparisons.proofs.orders.words_order.Tie as tie
+use Rattle.orderings.proofs.orders.words_order.Statement.{statement}
+use Rattle.orderings.proofs.orders.words_order.Tie as tie
 
 first-joined-requires : tie.Need-first-joined-requires
 first-joined-requires c κs = search needs

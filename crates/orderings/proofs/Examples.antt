@@ -7,8 +7,8 @@ use Rattle.sets.specs.Members.{wordsOf, bitOf, read}
 use Rattle.sets.specs.Outcomes.{given}
 use Rattle.sets.specs.Questions.{questions, lengthQuestion, wordsQuestion, strayQuestion}
 use Rattle.two_sets.specs.Rules.{bothQuestions}
-use Rattle.comparisons.specs.Relations.{wordsOrder}
-use Rattle.comparisons.specs.Rules.{cmpRule}
+use Rattle.orderings.specs.Orders.{wordsOrder}
+use Rattle.orderings.specs.Rules.{cmpRule}
 
 -- of two bits, {0} is below {1}
 zero-below-one : cmpRule (record { length = 2 }) (1 ∷ []) (record { length = 2 }) (2 ∷ []) ≡ record { number = 0; order = 1 }

@@ -3,7 +3,7 @@ use sets::as_slice;
 use two_sets::check_both;
 ghost use mathlib.Core.Path.{_≡_};
 ghost use Rattle.two_sets.specs.Rules.{bothQuestions};
-ghost use Rattle.comparisons.specs.Rules.{longerRule};
+ghost use Rattle.longer_sets.specs.Rules.{longerRule};
 
 // The words of the longer set, as a part of its own slice: the second's for equal lengths.
 pub fn longer<'a>(a: FixedBitSet, words: &'a [u64], b: FixedBitSet, other: &'a [u64]) -> &'a [u64]

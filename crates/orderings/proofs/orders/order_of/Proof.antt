@@ -1,15 +1,15 @@
--- `comparisons::orders::order_of` meets its contract. Assumes nothing.
+-- `orderings::orders::order_of` meets its contract. Assumes nothing.
 use mathlib.Core.Path.{ap, _∙_}
 use Prim.Native.Nat.{ℕ}
 use denote.Ref.{now}
 use Rattle.sets.specs.Members.{bitOf}
 use Rattle.comparisons.proofs.SearchLaws.{both-of, same-common, common-lent}
-use Rattle.comparisons.proofs.OrderLaws.{shorter, longer-than, as-long}
-use Rattle.comparisons.specs.Relations.{wordsOrder}
+use Rattle.orderings.proofs.OrderLaws.{shorter, longer-than, as-long}
+use Rattle.orderings.specs.Orders.{wordsOrder}
 use borrow.Author.Needs.{needs}
 use native.Mathlib.Omega.{arith}
-use Rattle.comparisons.proofs.orders.order_of.Statement.{statement}
-use Rattle.comparisons.proofs.orders.order_of.Tie as tie
+use Rattle.orderings.proofs.orders.order_of.Statement.{statement}
+use Rattle.orderings.proofs.orders.order_of.Tie as tie
 
 returns : tie.Need-returns
 returns c = shorter _ _ _ _ (c .if1 .taken)

@@ -12,7 +12,7 @@ use Rattle.sets.proofs.OutcomeLaws.{given-yes}
 use Rattle.sets.proofs.QuestionLaws.{Valid, valid-yes}
 use Rattle.two_sets.specs.Rules.{bothQuestions}
 use Rattle.two_sets.proofs.SetJoins.{both-valid}
-use Rattle.comparisons.specs.Rules.{longerRule}
+use Rattle.longer_sets.specs.Rules.{longerRule}
 
 slice-of : (set : FixedBitSet) (ws : List ℕ) → Valid set ws → asSliceRule set ws ≡ take (wordsOf (set .length)) ws
 slice-of set ws v = sym (given-yes (λ m. []) (sym (valid-yes set ws v)) refl)
