@@ -7,8 +7,9 @@ use Rattle.word_bits.specs.Digits.{digit, number, wordOf}
 use Rattle.sets.specs.Members.{wordsOf, bitOf, read, write}
 use Rattle.sets.specs.Outcomes.{given}
 use Rattle.sets.specs.Questions.{lengthQuestion, wordsQuestion, strayQuestion, questions, roomQuestion}
 use Rattle.two_sets.specs.Members.{combined}
-use Rattle.two_sets.specs.Rules.{bothQuestions, unionWithRule}
+use Rattle.two_sets.specs.Rules.{bothQuestions}
+use Rattle.set_joins.specs.Rules.{unionWithRule}
 
 -- L = 4, {3}; `union_with` L = 130, {129}: length 130, words 8, 0, 2; the caller's old words are overwritten
 united : unionWithRule (record { length = 4 }) (8 ∷ 77 ∷ 77 ∷ []) (record { length = 130 }) (0 ∷ 0 ∷ 2 ∷ [])
