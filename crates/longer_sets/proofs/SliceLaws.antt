@@ -5,7 +5,7 @@ use mathlib.Core.List.{List, []}
 use Prim.Native.Nat.{ℕ, _≤_, _<_}
 use borrow.Author.Tests.{lt-ltb, le-ltb}
 use lib.ListN.{take}
-use Rattle.sets.specs.Calls.{asSliceRule}
+use Rattle.set_views.specs.Calls.{asSliceRule}
 use Rattle.sets.specs.Members.{wordsOf}
 use Rattle.sets.specs.declared.fixed_bit_set.FixedBitSet.{FixedBitSet}
 use Rattle.sets.proofs.OutcomeLaws.{given-yes}

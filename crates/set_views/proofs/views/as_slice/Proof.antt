@@ -1,15 +1,15 @@
--- `sets::as_slice` meets its contract. Assumes nothing.
+-- `set_views::as_slice` meets its contract. Assumes nothing.
 use mathlib.Core.Path.{sym, ap, _∙_}
 use mathlib.Core.List.{[]}
 use Prim.Native.Nat.{ℕ}
 use denote.Ref.{now}
 use lib.ListN.{take}
 use lib.Seq.{length-take-le}
 use Rattle.sets.proofs.OutcomeLaws.{given-no, given-yes}
 use Rattle.sets.proofs.QuestionLaws.{valid}
 use borrow.Author.Needs.{needs}
-use Rattle.sets.proofs.views.as_slice.Statement.{statement}
-use Rattle.sets.proofs.views.as_slice.Tie as tie
+use Rattle.set_views.proofs.views.as_slice.Statement.{statement}
+use Rattle.set_views.proofs.views.as_slice.Tie as tie
 
 check-requires : tie.Need-check-requires
 check-requires c κs = search needs
