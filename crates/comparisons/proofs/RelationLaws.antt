@@ -20,9 +20,10 @@ use Rattle.sets.proofs.OutcomeLaws.{given-yes}
 use Rattle.sets.proofs.QuestionLaws.{first-yes}
 use Rattle.sets.proofs.ReadLaws.{read-above}
 use Rattle.sets.proofs.WordLaws.{words-hold}
-use Rattle.queries.specs.Queries.{anyIn}
-use Rattle.queries.specs.Rules.{rangeQuestions, containsAnyRule}
+use Rattle.queries.specs.Rules.{rangeQuestions}
 use Rattle.queries.proofs.RowLaws.{some-ext, all-not-some}
+use Rattle.range_tests.specs.RangeTests.{anyIn}
+use Rattle.range_tests.specs.Rules.{containsAnyRule}
 use Rattle.joins.specs.declared.operation.Operation.the-variants.{Intersection, Difference}
 use Rattle.comparisons.specs.Relations.{disjoint, subset}
 use Rattle.comparisons.specs.Search.{common}

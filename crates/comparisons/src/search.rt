@@ -8,7 +8,7 @@ ghost use Rattle.joins.specs.Operations.{maskedJoin};
 ghost use Rattle.comparisons.specs.Search.{common, FirstAt};
 
 // How many words both sets have.
-pub(crate) fn common_blocks(a: FixedBitSet, b: FixedBitSet) -> usize
+pub fn common_blocks(a: FixedBitSet, b: FixedBitSet) -> usize
     ensures { λ r. ⌜ r ≡ common a b ⌝ }
 {
     lesser(blocks_of(a.length), blocks_of(b.length))
@@ -16,7 +16,7 @@ pub(crate) fn common_blocks(a: FixedBitSet, b: FixedBitSet) -> usize
 
 // The first word below `end` where the join of the two words is not 0: the end where there is none.
 // `first`, `second` and `both` are all ones or 0, as in `two_sets`: one loop serves every comparison.
-pub(crate) fn first_joined(
+pub fn first_joined(
     words: &[u64],
     other: &[u64],
     end: usize,

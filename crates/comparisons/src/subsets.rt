@@ -1,6 +1,6 @@
 use crate::search::common_blocks;
 use crate::search::first_joined;
-use queries::contains_any_in_range;
+use range_tests::contains_any_in_range;
 use sets::FixedBitSet;
 use sets::Told;
 use two_sets::check_both;

@@ -1,14 +1,18 @@
 -- Counts and tests over a row of places: a row that ends early, a row split by a second one. Assumes nothing.
 use mathlib.Core.Path.{_≡_, refl, sym, ap, ap₂, _∙_}
 use mathlib.Core.Bool.{Bool, true, false, not, _&&_, _||_, or-false}
+use mathlib.Core.List.{List}
 use Prim.Native.Nat.{ℕ, zero, suc, _+_, _-_, _*_, _≤_, _<_}
 use native.Mathlib.Nat.{add-zero, add-suc, zero-add, add-sub-of-le, le-refl}
 use native.Mathlib.Omega.{arith}
-use Rattle.word_bits.specs.Digits.{one}
+use lib.ListN.{getD}
+use Rattle.word_bits.specs.Digits.{digit, one}
 use Rattle.word_bits.specs.Counts.{count, some, all}
 use Rattle.word_bits.proofs.Ones.{count-add, count-ext, count-none, count-all}
 use Rattle.masks.specs.Ranges.{covers}
 use Rattle.masks.proofs.RangeLaws.{covers-yes, covers-below, covers-above}
+use Rattle.sets.specs.Members.{bitOf}
+use Rattle.sets.proofs.WordLaws.{bit-at}
 
 -- ---- a row with no yes from `end` up
 
@@ -106,3 +110,7 @@ module _ (m : ℕ → Bool) (first end : ℕ) (below : (p : ℕ) → p < first *
       (run-add m (first * 64) 64 ((last - (first + 1)) * 64)
       ∙ ap (λ (x : ℕ). run m (first * 64) 64 + run m x ((last - (first + 1)) * 64)) b)
       (ap (λ (x : ℕ). run m x 64) e)
+
+-- a word's ones are the bits of its 64 positions
+pub word-ones : (ws : List ℕ) (k : ℕ) → count 64 (digit (getD ws k 0)) ≡ run (bitOf ws) (k * 64) 64
+word-ones ws k = count-ext 64 (digit (getD ws k 0)) (λ j. bitOf ws (k * 64 + j)) (λ j l. sym (bit-at ws k j l))

@@ -1,6 +1,6 @@
 -- Tests of a range, word by word: some bit of it differs from that of `skip`. Assumes nothing.
 use mathlib.Core.Path.{_≡_, refl, sym, ap, ap₂, _∙_}
-use mathlib.Core.Bool.{Bool, true, false, not, xor, _&&_, _||_, Bool·not-not}
+use mathlib.Core.Bool.{Bool, true, false, not, xor}
 use mathlib.Core.List.{List}
 use mathlib.Core.Logic.{_⊎_, inl, inr}
 use Prim.Native.Nat.{ℕ, _+_, _-_, _*_, _/_, _%_, _^_, _≤_, _<_}
@@ -15,17 +15,13 @@ use Rattle.word_bits.specs.Counts.{some}
 use Rattle.word_bits.proofs.Digits.{digit-of-zero}
 use Rattle.word_bits.proofs.Operations.{digit-xor, digit-not}
 use Rattle.word_bits.proofs.Order.{lt-or-le}
-use Rattle.masks.specs.Ranges.{covers, endBlock}
+use Rattle.masks.specs.Ranges.{endBlock}
 use Rattle.masks.specs.RangeMasks.{rangeMask}
 use Rattle.masks.proofs.MaskLaws.{mask-whole}
-use Rattle.sets.specs.Members.{bitOf, read}
-use Rattle.sets.specs.declared.fixed_bit_set.FixedBitSet.{FixedBitSet}
-use Rattle.sets.proofs.ReadLaws.{read-below}
+use Rattle.sets.specs.Members.{bitOf}
 use Rattle.sets.proofs.WordLaws.{bit-at}
-use Rattle.queries.specs.Queries.{allIn, anyIn}
 use Rattle.queries.specs.Words.{differs}
-use Rattle.queries.proofs.PartLaws.{part, part-above, part-inside, none-in-words, masked-none, masked-some}
-use Rattle.queries.proofs.RowLaws.{some-clip, some-ext, all-not-some}
+use Rattle.queries.proofs.PartLaws.{part, none-in-words, masked-none, masked-some}
 
 -- ---- words
 
@@ -92,9 +88,9 @@ module _ (start end skip : ℕ) (ws : List ℕ) where
             (λ k j a b l. at (eqb-true (unlike start end skip ws last) 0 y) k j a b l (lt-or-le (start / 64) k) (lt-or-le k last)))
         go false y = sym (other-at last fit (eqb-false (unlike start end skip ws last) 0 y))
 
--- ---- members
+-- ---- a word of zeros, and a word of ones
 
-differs-none : (ws : List ℕ) (p : ℕ) → differs ws 0 p ≡ bitOf ws p
+pub differs-none : (ws : List ℕ) (p : ℕ) → differs ws 0 p ≡ bitOf ws p
 unfolding differs xor
 differs-none ws p = ap (xor (bitOf ws p)) (digit-of-zero (p % 64)) ∙ go (bitOf ws p)
   where
@@ -102,7 +98,7 @@ differs-none ws p = ap (xor (bitOf ws p)) (digit-of-zero (p % 64)) ∙ go (bitOf
     go true = refl
     go false = refl
 
-differs-all : (ws : List ℕ) (p : ℕ) → differs ws (2 ^ 64 - 1) p ≡ not (bitOf ws p)
+pub differs-all : (ws : List ℕ) (p : ℕ) → differs ws (2 ^ 64 - 1) p ≡ not (bitOf ws p)
 unfolding differs xor
 differs-all ws p =
     ap (xor (bitOf ws p)) (digit-not 64 0 (p % 64) (lit< tt) (omega arith) ∙ ap not (digit-of-zero (p % 64))) ∙ go (bitOf ws p)
@@ -110,31 +106,3 @@ differs-all ws p =
     go : (b : Bool) → xor b true ≡ not b
     go true = refl
     go false = refl
-
-module _ (set : FixedBitSet) (ws : List ℕ) (start end : ℕ) (inside : end ≤ set .length) where
-  pub any-is : some end (part start end (differs ws 0)) ≡ anyIn start end (read ws set)
-  unfolding read
-  any-is =
-      some-ext end (part start end (differs ws 0)) (part start end (read ws set .has))
-      (λ p h. ap (λ (b : Bool). covers start end p && b) (differs-none ws p ∙ sym (read-below ws set p (omega arith))))
-      ∙ sym (some-clip (part start end (read ws set .has)) end (λ p h. part-above start end (read ws set .has) p h) (set .length) inside)
-
-  pub all-is : not (some end (part start end (differs ws (2 ^ 64 - 1)))) ≡ allIn start end (read ws set)
-  unfolding read
-  all-is =
-      ap not
-      (some-ext end (part start end (differs ws (2 ^ 64 - 1))) (part start end (λ p. not (read ws set .has p)))
-      (λ p h. ap (λ (b : Bool). covers start end p && b) (differs-all ws p ∙ ap not (sym (read-below ws set p (omega arith)))))
-      ∙ sym (some-clip (part start end (λ p. not (read ws set .has p))) end (λ p h. part-above start end (λ p. not (read ws set .has p)) p h) (set .length) inside))
-      ∙ sym (all-not-some (set .length) (λ p. not (covers start end p) || read ws set .has p) (part start end (λ p. not (read ws set .has p)))
-      (λ p h. or-not (covers start end p) (read ws set .has p)))
-    where
-      or-not : (a b : Bool) → (not a || b) ≡ not (a && not b)
-      or-not true b = sym (Bool·not-not b)
-      or-not false b = refl
-
--- over the whole set every position is in the range
-pub clear-is : (set : FixedBitSet) (ws : List ℕ) → some (set .length) (part 0 (set .length) (differs ws 0)) ≡ some (set .length) (read ws set .has)
-clear-is set ws =
-    some-ext (set .length) (part 0 (set .length) (differs ws 0)) (read ws set .has)
-    (λ p h. part-inside 0 (set .length) (differs ws 0) p (omega arith) h ∙ differs-none ws p ∙ sym (read-below ws set p h))

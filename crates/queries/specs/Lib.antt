@@ -1,4 +1,2 @@
-pub mod Queries
-pub mod Found
 pub mod Words
 pub mod Rules

@@ -8,7 +8,7 @@ ghost use Rattle.word_bits.specs.Counts.{count, zerosBelow, zerosAbove};
 ghost use Rattle.sets.specs.Members.{bitOf};
 
 // How many bits of the words first..end are set.
-pub(crate) fn ones_between(words: &[u64], first: usize, end: usize) -> usize
+pub fn ones_between(words: &[u64], first: usize, end: usize) -> usize
     requires { ⌜ (end ≤ length (now words)) × (end ≤ 1024) ⌝ }
     ensures { λ r. ⌜ r ≡ count ((end - first) * 64) (λ (j : ℕ). bitOf (now (words .entry)) (first * 64 + j)) ⌝ }
 {
@@ -22,7 +22,7 @@ pub(crate) fn ones_between(words: &[u64], first: usize, end: usize) -> usize
 }
 
 // The first word of first..end that is not `skip`: the end where there is none.
-pub(crate) fn first_other(words: &[u64], first: usize, end: usize, skip: u64) -> usize
+pub fn first_other(words: &[u64], first: usize, end: usize, skip: u64) -> usize
     requires { ⌜ (first ≤ end) × (end ≤ length (now words)) ⌝ }
     ensures { λ r. ⌜ r ≡ first + zerosBelow (end - first) (λ (i : ℕ). not (eqb (getD (now (words .entry)) (first + i) 0) skip)) ⌝ }
 {
@@ -39,7 +39,7 @@ pub(crate) fn first_other(words: &[u64], first: usize, end: usize, skip: u64) ->
 }
 
 // One above the last word of 0..end that is not 0: 0 where there is none.
-pub(crate) fn above_last(words: &[u64], end: usize) -> usize
+pub fn above_last(words: &[u64], end: usize) -> usize
     requires { ⌜ end ≤ length (now words) ⌝ }
     ensures { λ r. ⌜ r ≡ end - zerosAbove end (λ (k : ℕ). not (eqb (getD (now (words .entry)) k 0) 0)) ⌝ }
 {

@@ -11,11 +11,11 @@ ghost use Prim.Native.Nat.{ℕ, _*_, _≤_};
 ghost use lib.ListN.{length};
 ghost use Rattle.word_bits.specs.Counts.{some};
 ghost use Rattle.masks.specs.Ranges.{covers};
-ghost use Rattle.queries.specs.Rules.{rangeQuestions, containsRule, containsAllRule, containsAnyRule, isFullRule, isClearRule};
+ghost use Rattle.queries.specs.Rules.{rangeQuestions, containsRule};
 ghost use Rattle.queries.specs.Words.{differs};
 
 // Questions 1 to 3, then 5.
-pub(crate) fn ask(set: FixedBitSet, words: &[u64], start: usize, end: usize) -> u64
+pub fn ask(set: FixedBitSet, words: &[u64], start: usize, end: usize) -> u64
     ensures { λ r. ⌜ r ≡ rangeQuestions set start end (now (words .entry)) ⌝ }
 {
     let number = check(set, words);
@@ -26,7 +26,7 @@ pub(crate) fn ask(set: FixedBitSet, words: &[u64], start: usize, end: usize) -> 
 }
 
 // Whether some bit of the range differs from the bit of `skip` in its place.
-fn some_other(words: &[u64], start: usize, end: usize, skip: u64) -> bool
+pub fn some_other(words: &[u64], start: usize, end: usize, skip: u64) -> bool
     requires { ⌜ end ≤ length (now words) * 64 ⌝ }
     ensures { λ r. ⌜ r ≡ some end (λ (p : ℕ). covers start end p && differs (now (words .entry)) skip p) ⌝ }
 {
@@ -59,61 +59,5 @@ pub fn contains(set: FixedBitSet, words: &[u64], bit: usize) -> Told
     Told {
         number: 0,
         yes: member(set, words, bit),
-    }
-}
-
-// Whether each position of the range is a member.
-pub fn contains_all_in_range(set: FixedBitSet, words: &[u64], start: usize, end: usize) -> Told
-    ensures { λ r. ⌜ r ≡ containsAllRule set start end (now (words .entry)) ⌝ }
-{
-    let number = ask(set, words, start, end);
-    if number != 0 {
-        return Told { number, yes: false };
-    }
-    Told {
-        number: 0,
-        yes: !some_other(words, start, end, u64::MAX),
-    }
-}
-
-// Whether some position of the range is a member.
-pub fn contains_any_in_range(set: FixedBitSet, words: &[u64], start: usize, end: usize) -> Told
-    ensures { λ r. ⌜ r ≡ containsAnyRule set start end (now (words .entry)) ⌝ }
-{
-    let number = ask(set, words, start, end);
-    if number != 0 {
-        return Told { number, yes: false };
-    }
-    Told {
-        number: 0,
-        yes: some_other(words, start, end, 0),
-    }
-}
-
-// Whether each position of the set is a member.
-pub fn is_full(set: FixedBitSet, words: &[u64]) -> Told
-    ensures { λ r. ⌜ r ≡ isFullRule set (now (words .entry)) ⌝ }
-{
-    let number = check(set, words);
-    if number != 0 {
-        return Told { number, yes: false };
-    }
-    Told {
-        number: 0,
-        yes: !some_other(words, 0, set.length, u64::MAX),
-    }
-}
-
-// Whether the set has no member.
-pub fn is_clear(set: FixedBitSet, words: &[u64]) -> Told
-    ensures { λ r. ⌜ r ≡ isClearRule set (now (words .entry)) ⌝ }
-{
-    let number = check(set, words);
-    if number != 0 {
-        return Told { number, yes: false };
-    }
-    Told {
-        number: 0,
-        yes: !some_other(words, 0, set.length, 0),
     }
 }

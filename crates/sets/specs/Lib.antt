@@ -1,4 +1,3 @@
 pub mod Members
 pub mod Questions
 pub mod Outcomes
-pub mod Calls

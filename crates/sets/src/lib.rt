@@ -1,4 +1,4 @@
-// A set of bits over lent 64-bit words: what it is, the questions before any work, and views of a set.
+// A set of bits over lent 64-bit words: what it is, the questions before any work, and membership.
 mod answers;
 mod fixed_bit_set;
 mod questions;
@@ -13,8 +13,4 @@ pub use questions::ask_new;
 pub use questions::ask_position;
 pub use questions::check;
 pub use sizes::blocks_of;
-pub use views::as_slice;
-pub use views::as_slice_number;
-pub use views::is_empty;
-pub use views::len;
 pub use views::member;

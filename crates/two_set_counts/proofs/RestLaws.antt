@@ -13,9 +13,9 @@ use Rattle.sets.specs.declared.fixed_bit_set.FixedBitSet.{FixedBitSet}
 use Rattle.sets.specs.declared.answers.Counted.{Counted}
 use Rattle.sets.proofs.OutcomeLaws.{given-yes}
 use Rattle.sets.proofs.QuestionLaws.{first-yes, valid}
-use Rattle.queries.specs.Queries.{onesIn}
-use Rattle.queries.specs.Rules.{countOnesRule}
 use Rattle.queries.proofs.PartLaws.{part, part-below, part-inside}
+use Rattle.range_counts.specs.RangeCounts.{onesIn}
+use Rattle.range_counts.specs.Rules.{countOnesRule}
 use Rattle.two_set_counts.specs.Parts.{onesFrom}
 
 -- what a range up to the end of the set has

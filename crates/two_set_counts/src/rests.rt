@@ -1,6 +1,6 @@
 use blocks::lesser;
 use joins::Operation;
-use queries::count_ones;
+use range_counts::count_ones;
 use sets::FixedBitSet;
 ghost use mathlib.Core.Path.{_≡_};
 ghost use Rattle.sets.specs.Members.{read};

@@ -1,3 +1,2 @@
 pub mod MemberJoins
 pub mod SetJoins
-mod Examples

@@ -17,7 +17,7 @@ ghost use Rattle.sets.specs.Members.{read};
 ghost use Rattle.sets.specs.Outcomes.{outcome, edited};
 ghost use Rattle.joins.specs.Operations.{joinedWord, padded};
 ghost use Rattle.two_sets.specs.Members.{growing, keeping};
-ghost use Rattle.two_sets.specs.Rules.{bothQuestions, growingQuestions, unionWithRule, symmetricDifferenceWithRule, intersectWithRule, differenceWithRule};
+ghost use Rattle.two_sets.specs.Rules.{bothQuestions, growingQuestions};
 
 // Questions 1 to 3 of the first set, then of the second.
 pub fn check_both(a: FixedBitSet, words: &[u64], b: FixedBitSet, other: &[u64]) -> u64
@@ -48,7 +48,7 @@ fn join_in_place(
     join_second_alone(words, other, blocks, total, operation);
 }
 
-fn keep_with(
+pub fn keep_with(
     a: FixedBitSet,
     words: &mut [u64],
     b: FixedBitSet,
@@ -66,7 +66,7 @@ fn keep_with(
     Edited { number: 0, set: a }
 }
 
-fn grow_with(
+pub fn grow_with(
     a: FixedBitSet,
     words: &mut [u64],
     b: FixedBitSet,
@@ -96,33 +96,4 @@ fn grow_with(
         number: 0,
         set: FixedBitSet::new(length),
     }
-}
-
-pub fn union_with(a: FixedBitSet, words: &mut [u64], b: FixedBitSet, other: &[u64]) -> Edited
-    ensures { λ r. ⌜ outcome r (now (words .exit)) ≡ unionWithRule a (now (words .entry)) b (now (other .entry)) ⌝ }
-{
-    grow_with(a, words, b, other, Operation::Union)
-}
-
-pub fn symmetric_difference_with(
-    a: FixedBitSet,
-    words: &mut [u64],
-    b: FixedBitSet,
-    other: &[u64],
-) -> Edited
-    ensures { λ r. ⌜ outcome r (now (words .exit)) ≡ symmetricDifferenceWithRule a (now (words .entry)) b (now (other .entry)) ⌝ }
-{
-    grow_with(a, words, b, other, Operation::SymmetricDifference)
-}
-
-pub fn intersect_with(a: FixedBitSet, words: &mut [u64], b: FixedBitSet, other: &[u64]) -> Edited
-    ensures { λ r. ⌜ outcome r (now (words .exit)) ≡ intersectWithRule a (now (words .entry)) b (now (other .entry)) ⌝ }
-{
-    keep_with(a, words, b, other, Operation::Intersection)
-}
-
-pub fn difference_with(a: FixedBitSet, words: &mut [u64], b: FixedBitSet, other: &[u64]) -> Edited
-    ensures { λ r. ⌜ outcome r (now (words .exit)) ≡ differenceWithRule a (now (words .entry)) b (now (other .entry)) ⌝ }
-{
-    keep_with(a, words, b, other, Operation::Difference)
 }

@@ -1,5 +1,5 @@
--- The rule of each step of a walk of one part: questions 1 to 3 of each set, then 8.
-use mathlib.Core.Bool.{Bool, cond, not, _&&_}
+-- The rule of each step of a walk over one set: questions 1 to 3, then 8.
+use mathlib.Core.Bool.{cond, not, _&&_}
 use mathlib.Core.List.{List}
 use Prim.Native.Nat.{ℕ}
 use lib.Dec.{leb}
@@ -7,7 +7,6 @@ use Rattle.sets.specs.Members.{read}
 use Rattle.sets.specs.Outcomes.{given}
 use Rattle.sets.specs.Questions.{first, questions}
 use Rattle.sets.specs.declared.fixed_bit_set.FixedBitSet.{FixedBitSet}
-use Rattle.two_sets.specs.Rules.{bothQuestions}
 use Rattle.queries.specs.declared.found.Position.the-variants.{Nothing}
 use Rattle.parts.specs.Steps.{front, back}
 use Rattle.parts.specs.declared.records.Part.{Part}
@@ -29,9 +28,6 @@ stepped n part s = given n (λ m. record { number = m; at = Nothing; part = part
 abbrev pub oneQuestions : FixedBitSet → List ℕ → Part → ℕ
 oneQuestions set ws part = first (questions set ws) (partQuestion set part)
 
-abbrev pub twoQuestions : FixedBitSet → List ℕ → FixedBitSet → List ℕ → Part → ℕ
-twoQuestions a ws b vs part = first (bothQuestions a ws b vs) (partQuestion a part)
-
 -- `ones`: members of A, rising
 abbrev pub onesNextRule : FixedBitSet → List ℕ → Part → Stepped
 onesNextRule set ws part = stepped (oneQuestions set ws part) part (front (read ws set .has) part)
@@ -42,16 +38,3 @@ onesNextBackRule set ws part = stepped (oneQuestions set ws part) part (back (re
 -- `zeroes`: non-members below L, rising, front steps only
 abbrev pub zeroesNextRule : FixedBitSet → List ℕ → Part → Stepped
 zeroesNextRule set ws part = stepped (oneQuestions set ws part) part (front (λ p. not (read ws set .has p)) part)
-
--- `intersection`, `difference`: members of A that are, or are not, in B, rising
-abbrev pub intersectionNextRule : FixedBitSet → List ℕ → FixedBitSet → List ℕ → Part → Stepped
-intersectionNextRule a ws b vs part = stepped (twoQuestions a ws b vs part) part (front (λ p. read ws a .has p && read vs b .has p) part)
-
-abbrev pub intersectionNextBackRule : FixedBitSet → List ℕ → FixedBitSet → List ℕ → Part → Stepped
-intersectionNextBackRule a ws b vs part = stepped (twoQuestions a ws b vs part) part (back (λ p. read ws a .has p && read vs b .has p) part)
-
-abbrev pub differenceNextRule : FixedBitSet → List ℕ → FixedBitSet → List ℕ → Part → Stepped
-differenceNextRule a ws b vs part = stepped (twoQuestions a ws b vs part) part (front (λ p. read ws a .has p && not (read vs b .has p)) part)
-
-abbrev pub differenceNextBackRule : FixedBitSet → List ℕ → FixedBitSet → List ℕ → Part → Stepped
-differenceNextBackRule a ws b vs part = stepped (twoQuestions a ws b vs part) part (back (λ p. read ws a .has p && not (read vs b .has p)) part)

@@ -1,9 +1,8 @@
 use parts::Part;
 use sets::FixedBitSet;
 use sets::check;
-use two_sets::check_both;
 ghost use mathlib.Core.Path.{_≡_};
-ghost use Rattle.walks.specs.Rules.{firstPart, partQuestion, oneQuestions, twoQuestions};
+ghost use Rattle.walks.specs.Rules.{firstPart, partQuestion, oneQuestions};
 
 // The record of a part over the set before its first step.
 pub fn first_part(set: FixedBitSet) -> Part
@@ -36,20 +35,4 @@ pub(crate) fn ask_one(set: FixedBitSet, words: &[u64], part: Part) -> u64
         return number;
     }
     ask_part(set, part)
-}
-
-pub(crate) fn ask_two(
-    a: FixedBitSet,
-    words: &[u64],
-    b: FixedBitSet,
-    other: &[u64],
-    part: Part,
-) -> u64
-    ensures { λ r. ⌜ r ≡ twoQuestions a (now (words .entry)) b (now (other .entry)) part ⌝ }
-{
-    let number = check_both(a, words, b, other);
-    if number != 0 {
-        return number;
-    }
-    ask_part(a, part)
 }

@@ -15,7 +15,7 @@ use Rattle.sets.specs.Outcomes.{given}
 use Rattle.sets.specs.Questions.{questions}
 use Rattle.sets.specs.declared.fixed_bit_set.FixedBitSet.{FixedBitSet}
 use Rattle.sets.proofs.QuestionLaws.{first-yes, valid-yes}
-use Rattle.queries.specs.Queries.{onesIn}
+use Rattle.range_counts.specs.RangeCounts.{onesIn}
 use Rattle.queries.specs.Rules.{rangeQuestions}
 use Rattle.two_sets.specs.Rules.{bothQuestions}
 use Rattle.two_sets.proofs.SetJoins.{both-valid}
@@ -24,7 +24,8 @@ use Rattle.two_set_counts.proofs.ListLaws.{length-positions}
 use Rattle.parts.specs.declared.records.End.{End}
 use Rattle.parts.specs.declared.records.End.the-variants.{Front, Back}
 use Rattle.parts.specs.declared.records.Part.{Part}
-use Rattle.walks.specs.Rules.{partQuestion, oneQuestions, twoQuestions}
+use Rattle.walks.specs.Rules.{partQuestion, oneQuestions}
+use Rattle.pair_walks.specs.Rules.{twoQuestions}
 use Rattle.walks.specs.declared.records.Stepped.{Stepped}
 use Rattle.two_part_walks.specs.Rules.{PairStep, pairQuestions}
 use Rattle.two_part_walks.specs.declared.records.SteppedPair.{SteppedPair}

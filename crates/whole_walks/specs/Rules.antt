@@ -9,7 +9,7 @@ use Rattle.sets.specs.Outcomes.{given}
 use Rattle.sets.specs.Questions.{first}
 use Rattle.sets.specs.declared.fixed_bit_set.FixedBitSet.{FixedBitSet}
 use Rattle.sets.specs.declared.answers.Counted.{Counted}
-use Rattle.queries.specs.Rules.{countOnesRule}
+use Rattle.range_counts.specs.Rules.{countOnesRule}
 use Rattle.queries.specs.declared.found.Position.{Position}
 use Rattle.queries.specs.declared.found.Position.the-variants.{At, Nothing}
 use Rattle.two_sets.specs.Rules.{bothQuestions}
@@ -17,7 +17,8 @@ use Rattle.two_set_counts.specs.Rules.{unionCountRule, intersectionCountRule, d
 use Rattle.parts.specs.declared.records.End.{End}
 use Rattle.parts.specs.declared.records.End.the-variants.{Front, Back}
 use Rattle.parts.specs.declared.records.Part.{Part}
-use Rattle.walks.specs.Rules.{onesNextRule, onesNextBackRule, intersectionNextRule, intersectionNextBackRule, differenceNextRule, differenceNextBackRule}
+use Rattle.walks.specs.Rules.{onesNextRule, onesNextBackRule}
+use Rattle.pair_walks.specs.Rules.{intersectionNextRule, intersectionNextBackRule, differenceNextRule, differenceNextBackRule}
 use Rattle.walks.specs.declared.records.Stepped.{Stepped}
 use Rattle.two_part_walks.specs.Rules.{unionNextRule, unionNextBackRule, symmetricDifferenceNextRule, symmetricDifferenceNextBackRule}
 use Rattle.two_part_walks.specs.declared.records.SteppedPair.{SteppedPair}

@@ -1,5 +1,5 @@
 use crate::records::Walk;
-use queries::count_ones;
+use range_counts::count_ones;
 use sets::Counted;
 use sets::FixedBitSet;
 use two_set_counts::difference_count;

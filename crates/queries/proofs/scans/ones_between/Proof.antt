@@ -6,8 +6,7 @@ use lib.ListN.{getD}
 use Rattle.word_bits.specs.Digits.{digit}
 use Rattle.word_bits.proofs.Ones.{count-le}
 use Rattle.sets.specs.Members.{bitOf}
-use Rattle.queries.proofs.CountLaws.{word-ones}
-use Rattle.queries.proofs.RowLaws.{run, run-none, run-more}
+use Rattle.queries.proofs.RowLaws.{run, run-none, run-more, word-ones}
 use borrow.Author.Needs.{needs}
 use native.Mathlib.Omega.{arith}
 use Rattle.queries.proofs.scans.ones_between.Statement.{statement}

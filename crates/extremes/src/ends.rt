@@ -1,0 +1,61 @@
+use queries::Found;
+use queries::Position;
+use queries::above_last;
+use queries::first_other;
+use sets::FixedBitSet;
+use sets::blocks_of;
+use sets::check;
+use word_bits::leading_zeros;
+use word_bits::trailing_zeros;
+ghost use mathlib.Core.Path.{_≡_};
+ghost use Rattle.extremes.specs.Rules.{minimumRule, maximumRule};
+
+// The least member: the lowest bit of the first word that is not 0.
+pub fn minimum(set: FixedBitSet, words: &[u64]) -> Found
+    ensures { λ r. ⌜ r ≡ minimumRule set (now (words .entry)) ⌝ }
+{
+    let number = check(set, words);
+    if number != 0 {
+        return Found {
+            number,
+            at: Position::Nothing,
+        };
+    }
+    let blocks = blocks_of(set.length);
+    let k = first_other(words, 0, blocks, 0);
+    if blocks <= k {
+        return Found {
+            number: 0,
+            at: Position::Nothing,
+        };
+    }
+    Found {
+        number: 0,
+        at: Position::At(k * 64 + trailing_zeros(words[k])),
+    }
+}
+
+// The greatest member: the highest bit of the last word that is not 0.
+pub fn maximum(set: FixedBitSet, words: &[u64]) -> Found
+    ensures { λ r. ⌜ r ≡ maximumRule set (now (words .entry)) ⌝ }
+{
+    let number = check(set, words);
+    if number != 0 {
+        return Found {
+            number,
+            at: Position::Nothing,
+        };
+    }
+    let above = above_last(words, blocks_of(set.length));
+    if above == 0 {
+        return Found {
+            number: 0,
+            at: Position::Nothing,
+        };
+    }
+    let zeros = leading_zeros(words[above - 1]);
+    Found {
+        number: 0,
+        at: Position::At(above * 64 - 1 - zeros),
+    }
+}

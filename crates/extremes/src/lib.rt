@@ -1,0 +1,5 @@
+// The least and the greatest member.
+mod ends;
+
+pub use ends::maximum;
+pub use ends::minimum;

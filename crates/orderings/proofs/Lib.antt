@@ -1,0 +1,3 @@
+pub mod EqualLaws
+pub mod OrderLaws
+mod Examples

@@ -1,0 +1,2 @@
+pub mod RangeCounts
+pub mod Rules

@@ -1,0 +1,2 @@
+pub mod RangeTestLaws
+mod Examples

@@ -1,0 +1,2 @@
+pub mod RangeTests
+pub mod Rules
