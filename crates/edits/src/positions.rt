@@ -13,6 +13,7 @@ ghost use Rattle.sets.specs.Outcomes.{outcome};
 ghost use Rattle.changes.specs.Changes.{effect};
 ghost use Rattle.edits.specs.Rules.{atPosition, insertRule, removeRule, toggleRule, setRule, copyBitRule, putOutcome, putRule};
 
+#[repr(C)]
 pub struct Replaced {
     pub number: u64,
     pub set: FixedBitSet,

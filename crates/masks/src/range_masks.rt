@@ -4,6 +4,7 @@ ghost use Rattle.masks.specs.RangeMasks.{rangeMask, masksOf};
 ghost use Prim.Native.Nat.{_-_};
 
 // The words that a range meets are first_block..end_block. The mask of each word strictly between the first and the last is all ones.
+#[repr(C)]
 pub struct Masks {
     pub first_block: usize,
     pub end_block: usize,

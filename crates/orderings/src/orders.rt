@@ -12,6 +12,7 @@ ghost use Rattle.orderings.specs.Orders.{equal, wordsOrder, order};
 ghost use Rattle.orderings.specs.Rules.{eqRule, cmpRule};
 
 // The order is 0 for equal, 1 for below, 2 for above: 0 where refused.
+#[repr(C)]
 pub struct Compared {
     pub number: u64,
     pub order: u64,

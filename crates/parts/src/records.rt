@@ -15,6 +15,7 @@ pub enum End {
 }
 
 // What is left of a part: its positions from low up to high, which is not included.
+#[repr(C)]
 pub struct Part {
     pub low: usize,
     pub high: usize,

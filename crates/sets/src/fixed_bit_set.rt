@@ -2,6 +2,7 @@ ghost use mathlib.Core.Path.{_≡_};
 ghost use Rattle.sets.specs.Members.{setOf, empty};
 
 // A set is this value and the words that the caller lends beside it.
+#[repr(C)]
 pub struct FixedBitSet {
     pub length: usize,
 }

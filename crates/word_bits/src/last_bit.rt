@@ -3,6 +3,7 @@ ghost use mathlib.Core.Path.{_≡_};
 ghost use Rattle.word_bits.specs.LastBit.{lastBitRule};
 
 // The position of a word's lowest set bit, and the word without that bit. Number 9 refuses a word of 0.
+#[repr(C)]
 pub struct LastBit {
     pub number: u64,
     pub position: usize,
