@@ -1,0 +1,82 @@
+-- `edges::report::same` meets its contract. Assumes nothing.
+use mathlib.Core.Bool.{false≢true}
+use mathlib.Core.List.{List}
+use mathlib.Core.Logic.{_⊎_, inl, inr}
+use mathlib.Core.Path.{_≡_, refl, ap}
+use Prim.Native.Nat.{ℕ, _+_, _-_, _≤_, _<_}
+use native.Mathlib.Omega.{arith}
+use borrow.Author.Needs.{needs}
+use denote.Ref.{now}
+use lib.ListN.{length, getD}
+use lib.Seq.{ext-getD}
+use Rattle.word_bits.proofs.Order.{lt-or-le}
+use Rattle.edges.proofs.report.same.Statement.{statement}
+use Rattle.edges.proofs.report.same.Tie as tie
+
+abbrev Inv-loop : tie.InvT-loop
+Inv-loop a b k₀ k = (k ≤ length a) × ((i : ℕ) → i < k → getD a i 0 ≡ getD b i 0)
+
+abbrev μ-loop : tie.MeasureT-loop
+μ-loop a b k₀ k = length a - k
+
+returns : tie.Need-returns Inv-loop μ-loop
+returns c = (λ e. absurd (false≢true e), λ e. absurd (c .if1 .taken (ap length e)))
+
+loop-holds : tie.Need-loop-holds Inv-loop μ-loop
+loop-holds c = (omega arith, λ i h. absurd (omega arith))
+
+mul-if2 : tie.Need-mul-if2 Inv-loop μ-loop
+mul-if2 c = search needs
+
+shared-slice-read-if2 : tie.Need-shared-slice-read-if2 Inv-loop μ-loop
+shared-slice-read-if2 c = search needs
+
+mul-if2-2 : tie.Need-mul-if2-2 Inv-loop μ-loop
+mul-if2-2 c = search needs
+
+shared-slice-read-if2-2 : tie.Need-shared-slice-read-if2-2 Inv-loop μ-loop
+shared-slice-read-if2-2 c = search needs
+
+returns-2 : tie.Need-returns-2 Inv-loop μ-loop
+returns-2 c = (λ e. absurd (false≢true e), λ e. absurd (c .if2 .taken (ap (λ (l : List ℕ). getD l (c .before .before .before .before .loop .k) 0) e)))
+
+add-k : tie.Need-add-k Inv-loop μ-loop
+add-k c = search needs
+
+loop-less : tie.Need-loop-less Inv-loop μ-loop
+loop-less c = search needs
+
+-- the places below k, and k itself
+one-more : (f g : ℕ → ℕ) {k : ℕ} → ((i : ℕ) → i < k → f i ≡ g i) → f k ≡ g k → (i : ℕ) → i < k + 1 → f i ≡ g i
+one-more f g {k} below here i h = go (lt-or-le i k)
+  where
+    go : (i < k) ⊎ (k ≤ i) → f i ≡ g i
+    go (inl l) = below i l
+    go (inr l) = let e : i ≡ k = omega arith in rw e here
+
+loop-again : tie.Need-loop-again Inv-loop μ-loop
+loop-again c =
+    let inv = c .before .before .before .before .loop .inv in
+    let a = c .before .before .before .before .before .before .args in
+    (omega arith, one-more (λ i. getD (now (a .a)) i 0) (λ i. getD (now (a .b)) i 0) (inv .1) (c .if2 .left))
+
+returns-3 : tie.Need-returns-3 Inv-loop μ-loop
+returns-3 c = (λ t. ext-getD 0 _ _ (c .before .before .if1 .left) (λ i h. c .before .loop .inv .1 i (omega arith)), λ e. refl)
+
+pub same-spec : {M : Type 1} → statement M
+same-spec =
+    tie.close
+    (tie.spec
+    Inv-loop
+    μ-loop
+    returns
+    loop-holds
+    mul-if2
+    shared-slice-read-if2
+    mul-if2-2
+    shared-slice-read-if2-2
+    returns-2
+    add-k
+    loop-less
+    loop-again
+    returns-3)
