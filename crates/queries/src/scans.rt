@@ -6,7 +6,8 @@ ghost use lib.Dec.{eqb};
 ghost use lib.ListN.{length, getD};
 ghost use Rattle.word_bits.specs.Counts.{zerosBelow};
 
-// The first word of first..end that is not `skip`: the end where there is none. The slice's end ends it too.
+// The first word of first..end that is not `skip`: where there is none the end, or the slice's end if that is less,
+// or `first` if it is past that.
 pub fn first_other(words: &[u64], first: usize, end: usize, skip: u64) -> usize
     ensures { λ r. ⌜ r ≡ first + zerosBelow (min end (length (now (words .entry))) - first) (λ (i : ℕ). not (eqb (getD (now (words .entry)) (first + i) 0) skip)) ⌝ }
 {
