@@ -3,7 +3,7 @@ use mathlib.Core.Path.{_≡_, sym, ap, ap₂, _∙_}
 use mathlib.Core.Bool.{Bool, true, false}
 use mathlib.Core.List.{List}
 use mathlib.Core.Logic.{_⊎_, inl, inr}
-use Prim.Native.Nat.{ℕ, _+_, _-_, _*_, _/_, _%_, _^_, _≤_, _<_}
+use Prim.Native.Nat.{ℕ, _+_, _-_, _*_, _/_, _%_, _^_, _≤_, _<_, min}
 use native.Mathlib.Nat.{div-add-mod'}
 use native.Mathlib.Omega.{arith}
 use lib.ListN.{length, getD}
@@ -39,19 +39,24 @@ first-ext g h {end} {r} same f = record {
 abbrev pub FirstJoin : Operation → List ℕ → List ℕ → ℕ → ℕ → Type 0
 FirstJoin op ws vs end r = FirstAt (λ k. joinedWord op (getD ws k 0) (getD vs k 0)) end r
 
--- the same, by masks
+-- what `first_joined` gives: the same by masks, below the ends of both lists
 abbrev pub FirstMasked : ℕ → ℕ → ℕ → List ℕ → List ℕ → ℕ → ℕ → Type 0
-FirstMasked first second both ws vs end r = FirstAt (λ k. maskedJoin first second both (getD ws k 0) (getD vs k 0)) end r
+FirstMasked first second both ws vs end r =
+    FirstAt (λ k. maskedJoin first second both (getD ws k 0) (getD vs k 0)) (min end (min (length ws) (length vs))) r
 
-module _ (ws vs : List ℕ) (fw : (k : ℕ) → getD ws k 0 < 2 ^ 64) (fv : (k : ℕ) → getD vs k 0 < 2 ^ 64) {end r : ℕ} where
+all-lent : (end n m : ℕ) → (end ≤ n) × (end ≤ m) → min end (min n m) ≡ end
+all-lent end n m h = omega arith
+
+module _ (ws vs : List ℕ) (fw : (k : ℕ) → getD ws k 0 < 2 ^ 64) (fv : (k : ℕ) → getD vs k 0 < 2 ^ 64) {end r : ℕ}
+    (lent : (end ≤ length ws) × (end ≤ length vs)) where
   pub first-intersection : FirstMasked 0 0 (2 ^ 64 - 1) ws vs end r → FirstJoin Intersection ws vs end r
-  first-intersection f = first-ext _ _ (λ k. intersection-word (getD ws k 0) (getD vs k 0) (fw k) (fv k)) f
+  first-intersection f = first-ext _ _ (λ k. intersection-word (getD ws k 0) (getD vs k 0) (fw k) (fv k)) (rw (all-lent end (length ws) (length vs) lent) at f)
 
   pub first-difference : FirstMasked (2 ^ 64 - 1) 0 (2 ^ 64 - 1) ws vs end r → FirstJoin Difference ws vs end r
-  first-difference f = first-ext _ _ (λ k. difference-word (getD ws k 0) (getD vs k 0) (fw k) (fv k)) f
+  first-difference f = first-ext _ _ (λ k. difference-word (getD ws k 0) (getD vs k 0) (fw k) (fv k)) (rw (all-lent end (length ws) (length vs) lent) at f)
 
   pub first-symmetric : FirstMasked (2 ^ 64 - 1) (2 ^ 64 - 1) 0 ws vs end r → FirstJoin SymmetricDifference ws vs end r
-  first-symmetric f = first-ext _ _ (λ k. symmetric-difference-word (getD ws k 0) (getD vs k 0) (fw k) (fv k)) f
+  first-symmetric f = first-ext _ _ (λ k. symmetric-difference-word (getD ws k 0) (getD vs k 0) (fw k) (fv k)) (rw (all-lent end (length ws) (length vs) lent) at f)
 
 -- ---- positions
 

@@ -2,7 +2,7 @@ use blocks::lesser;
 use sets::FixedBitSet;
 use sets::blocks_of;
 ghost use mathlib.Core.Path.{_≡_};
-ghost use Prim.Native.Nat.{ℕ, _≤_};
+ghost use Prim.Native.Nat.{ℕ, min};
 ghost use lib.ListN.{length, getD};
 ghost use Rattle.joins.specs.Operations.{maskedJoin};
 ghost use Rattle.comparisons.specs.Search.{common, FirstAt};
@@ -14,7 +14,8 @@ pub fn common_blocks(a: FixedBitSet, b: FixedBitSet) -> usize
     lesser(blocks_of(a.length), blocks_of(b.length))
 }
 
-// The first word below `end` where the join of the two words is not 0: the end where there is none.
+// The first word below `end` where the join of the two words is not 0: where there is none the end, or a slice's end if
+// that is less.
 // `first`, `second` and `both` are all ones or 0, as in `two_sets`: one loop serves every comparison.
 pub fn first_joined(
     words: &[u64],
@@ -24,12 +25,12 @@ pub fn first_joined(
     second: u64,
     both: u64,
 ) -> usize
-    requires { ⌜ (end ≤ length (now words)) × (end ≤ length (now other)) ⌝ }
-    ensures { λ r. ⌜ FirstAt (λ (k : ℕ). maskedJoin first second both (getD (now (words .entry)) k 0) (getD (now (other .entry)) k 0)) end r ⌝ }
+    ensures { λ r. ⌜ FirstAt (λ (k : ℕ). maskedJoin first second both (getD (now (words .entry)) k 0) (getD (now (other .entry)) k 0)) (min end (min (length (now (words .entry))) (length (now (other .entry))))) r ⌝ }
 {
+    let stop = lesser(end, lesser(words.len(), other.len()));
     let mut k = 0;
     loop {
-        if end <= k {
+        if stop <= k {
             break k;
         }
         let a = words[k];

@@ -1,14 +1,35 @@
 use queries::Found;
 use queries::Position;
-use queries::above_last;
 use queries::first_other;
 use sets::FixedBitSet;
 use sets::blocks_of;
 use sets::check;
 use word_bits::leading_zeros;
 use word_bits::trailing_zeros;
+ghost use mathlib.Core.Bool.{not};
 ghost use mathlib.Core.Path.{_≡_};
+ghost use Prim.Native.Nat.{ℕ, _-_, _≤_};
+ghost use lib.Dec.{eqb};
+ghost use lib.ListN.{length, getD};
+ghost use Rattle.word_bits.specs.Counts.{zerosAbove};
 ghost use Rattle.extremes.specs.Rules.{minimumRule, maximumRule};
+
+// One above the last word of 0..end that is not 0: 0 where there is none.
+fn above_last(words: &[u64], end: usize) -> usize
+    requires { ⌜ end ≤ length (now words) ⌝ }
+    ensures { λ r. ⌜ r ≡ end - zerosAbove end (λ (k : ℕ). not (eqb (getD (now (words .entry)) k 0) 0)) ⌝ }
+{
+    let mut k = end;
+    loop {
+        if k == 0 {
+            break k;
+        }
+        if words[k - 1] != 0 {
+            break k;
+        }
+        k -= 1;
+    }
+}
 
 // The least member: the lowest bit of the first word that is not 0.
 pub fn minimum(set: FixedBitSet, words: &[u64]) -> Found

@@ -7,7 +7,7 @@ use Prim.Native.Nat.{ℕ, zero, suc, _+_, _-_, _*_, _^_, _≤_, _<_}
 use native.Mathlib.Omega.{arith}
 use borrow.Author.Tests.{lt-ltb, le-ltb}
 use lib.Dec.{ltb, lit<}
-use lib.ListN.{getD}
+use lib.ListN.{length, getD}
 use Rattle.word_bits.specs.Digits.{digit, wordOf}
 use Rattle.word_bits.proofs.Digits.{digit-of-zero, digits-ext, number-ext, word-is}
 use Rattle.word_bits.proofs.Order.{lt-or-le}
@@ -91,9 +91,9 @@ word-bits : (ws : List ℕ) → ((k : ℕ) → getD ws k 0 < 2 ^ 64) → (k : �
 word-bits ws fit k = word-is (bitOf ws) k (getD ws k 0) (fit k) (λ j l. sym (bit-at ws k j l))
 
 module _ (ws vs : List ℕ) (fw : (k : ℕ) → getD ws k 0 < 2 ^ 64) (fv : (k : ℕ) → getD vs k 0 < 2 ^ 64) {end r : ℕ}
-    (found : FirstMasked (2 ^ 64 - 1) (2 ^ 64 - 1) 0 ws vs end r) where
+    (lent : (end ≤ length ws) × (end ≤ length vs)) (found : FirstMasked (2 ^ 64 - 1) (2 ^ 64 - 1) 0 ws vs end r) where
   f : FirstJoin SymmetricDifference ws vs end r
-  f = first-symmetric ws vs fw fv found
+  f = first-symmetric ws vs fw fv lent found
 
   alike : (k : ℕ) → k < r → wordOf (bitOf ws) k ≡ wordOf (bitOf vs) k
   alike k h = sym (word-bits ws fw k) ∙ same-word (getD ws k 0) (getD vs k 0) (fw k) (fv k) (f .before k h) ∙ word-bits vs fv k

@@ -1,5 +1,4 @@
 pub mod RowLaws
 pub mod ScanLaws
 pub mod PartLaws
-pub mod TestLaws
 pub mod AskLaws

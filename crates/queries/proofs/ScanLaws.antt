@@ -2,7 +2,7 @@
 use mathlib.Core.Path.{_≡_, sym, ap, _∙_}
 use mathlib.Core.Bool.{Bool, true, false, not}
 use mathlib.Core.Logic.{_⊎_, inl, inr}
-use Prim.Native.Nat.{ℕ, suc, _+_, _-_, _≤_, _<_}
+use Prim.Native.Nat.{ℕ, suc, _+_, _-_, _≤_, _<_, min}
 use native.Mathlib.Nat.{add-sub-of-le}
 use native.Mathlib.Omega.{arith}
 use borrow.Author.Tests.{eq-eqb, ne-eqb, eqb-true, eqb-false, not-true, not-false}
@@ -42,11 +42,14 @@ more g first k skip zs e i a b = go (lt-or-le i k)
     go (inr h) = let same : i ≡ k = omega arith in ap g same ∙ e
 
 module _ (g : ℕ → ℕ) (first end skip : ℕ) where
-  pub scan-all : first ≤ end → ((i : ℕ) → first ≤ i → i < end → g i ≡ skip) → firstOther g first end skip ≡ end
-  scan-all h zs =
+  -- an end below `first` too
+  pub scan-none : ((i : ℕ) → first ≤ i → i < end → g i ≡ skip) → firstOther g first end skip ≡ first + (end - first)
+  scan-none zs =
       ap (λ (x : ℕ). first + x)
       (below-none (end - first) (λ i. other g skip (first + i)) (λ j l. not-other g skip (first + j) (zs (first + j) (omega arith) (omega arith))))
-      ∙ add-sub-of-le h
+
+  pub scan-all : first ≤ end → ((i : ℕ) → first ≤ i → i < end → g i ≡ skip) → firstOther g first end skip ≡ end
+  scan-all h zs = scan-none zs ∙ add-sub-of-le h
 
   pub scan-at : (k : ℕ) → first ≤ k → k < end → (g k ≡ skip → ⊥) → ((i : ℕ) → first ≤ i → i < k → g i ≡ skip) → firstOther g first end skip ≡ k
   scan-at k a b n zs =
@@ -55,6 +58,10 @@ module _ (g : ℕ → ℕ) (first end skip : ℕ) where
       (rw (add-sub-of-le a) (is-other g skip k n))
       (λ j l. not-other g skip (first + j) (zs (first + j) (omega arith) (omega arith))))
       ∙ add-sub-of-le a
+
+  -- a row of n words holds the words below `end`
+  pub scan-whole : {n r : ℕ} → end ≤ n → r ≡ firstOther g first (min end n) skip → r ≡ firstOther g first end skip
+  scan-whole {n} h e = let m : min end n ≡ end = omega arith in e ∙ ap (λ (x : ℕ). firstOther g first x skip) m
 
   module _ (r : ℕ) (e : r ≡ firstOther g first end skip) where
     pub scan-before : (i : ℕ) → first ≤ i → i < r → g i ≡ skip

@@ -18,9 +18,10 @@ use Rattle.sets.specs.Members.{bitOf, read}
 use Rattle.sets.specs.declared.fixed_bit_set.FixedBitSet.{FixedBitSet}
 use Rattle.sets.proofs.ReadLaws.{read-below}
 use Rattle.sets.proofs.WordLaws.{bit-at}
-use Rattle.queries.proofs.PartLaws.{part, part-below, part-above, part-inside, masked-count, meets}
-use Rattle.queries.proofs.RowLaws.{run, one-word, three-parts, count-clip, count-split, count-covers}
+use Rattle.queries.proofs.PartLaws.{part, part-below, part-above, part-inside, masked-digit, meets}
+use Rattle.queries.proofs.RowLaws.{count-clip, count-split, count-covers}
 use Rattle.range_counts.specs.RangeCounts.{onesIn, zeroesIn}
+use Rattle.range_counts.proofs.RunLaws.{run, one-word, three-parts}
 
 -- ---- the words of a range
 
@@ -30,7 +31,9 @@ onesAt start end ws k = count 64 (digit (bitAnd (getD ws k 0) (rangeMask start e
 
 module _ (start end : ℕ) (ws : List ℕ) where
   ones-at : (k : ℕ) → onesAt start end ws k ≡ run (part start end (bitOf ws)) (k * 64) 64
-  ones-at k = masked-count start end k (getD ws k 0) (bitOf ws) (λ j l. sym (bit-at ws k j l))
+  ones-at k =
+      count-ext 64 (digit (bitAnd (getD ws k 0) (rangeMask start end k))) (λ j. part start end (bitOf ws) (k * 64 + j))
+      (masked-digit start end k (getD ws k 0) (bitOf ws) (λ j l. sym (bit-at ws k j l)))
 
   before : (p : ℕ) → p < start / 64 * 64 → part start end (bitOf ws) p ≡ false
   before p h = part-below start end (bitOf ws) p (omega arith)

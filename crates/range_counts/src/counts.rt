@@ -1,16 +1,29 @@
 use masks::Masks;
 use queries::ask;
-use queries::ones_between;
 use sets::Counted;
 use sets::FixedBitSet;
 ghost use mathlib.Core.Bool.{_&&_};
 ghost use mathlib.Core.Path.{_≡_};
-ghost use Prim.Native.Nat.{ℕ, _*_, _≤_};
+ghost use Prim.Native.Nat.{ℕ, _+_, _-_, _*_, _≤_};
 ghost use lib.ListN.{length};
 ghost use Rattle.word_bits.specs.Counts.{count};
 ghost use Rattle.masks.specs.Ranges.{covers};
 ghost use Rattle.sets.specs.Members.{bitOf};
 ghost use Rattle.range_counts.specs.Rules.{countOnesRule, countZeroesRule};
+
+// How many bits of the words first..end are set.
+fn ones_between(words: &[u64], first: usize, end: usize) -> usize
+    requires { ⌜ (end ≤ length (now words)) × (end ≤ 1024) ⌝ }
+    ensures { λ r. ⌜ r ≡ count ((end - first) * 64) (λ (j : ℕ). bitOf (now (words .entry)) (first * 64 + j)) ⌝ }
+{
+    let mut sum: usize = 0;
+    let mut k = first;
+    while k < end {
+        sum += word_bits::count_ones(words[k]);
+        k += 1;
+    }
+    sum
+}
 
 // How many bits of the range are set.
 fn ones_of(words: &[u64], start: usize, end: usize) -> usize

@@ -9,11 +9,11 @@ use Rattle.masks.specs.Ranges.{covers}
 use Rattle.sets.specs.Members.{read}
 use Rattle.sets.specs.declared.fixed_bit_set.FixedBitSet.{FixedBitSet}
 use Rattle.sets.proofs.ReadLaws.{read-below}
-use Rattle.queries.specs.Words.{differs}
 use Rattle.queries.proofs.PartLaws.{part, part-above, part-inside}
 use Rattle.queries.proofs.RowLaws.{some-clip, some-ext, all-not-some}
-use Rattle.queries.proofs.TestLaws.{differs-none, differs-all}
 use Rattle.range_tests.specs.RangeTests.{allIn, anyIn}
+use Rattle.range_tests.specs.Words.{differs}
+use Rattle.range_tests.proofs.TestLaws.{differs-none, differs-all}
 
 module _ (set : FixedBitSet) (ws : List ℕ) (start end : ℕ) (inside : end ≤ set .length) where
   pub any-is : some end (part start end (differs ws 0)) ≡ anyIn start end (read ws set)

@@ -1,10 +1,40 @@
+use masks::Masks;
 use queries::ask;
-use queries::some_other;
+use queries::first_other;
 use sets::FixedBitSet;
 use sets::Told;
 use sets::check;
+ghost use mathlib.Core.Bool.{_&&_};
 ghost use mathlib.Core.Path.{_≡_};
+ghost use Prim.Native.Nat.{ℕ, _*_, _≤_};
+ghost use lib.ListN.{length};
+ghost use Rattle.word_bits.specs.Counts.{some};
+ghost use Rattle.masks.specs.Ranges.{covers};
 ghost use Rattle.range_tests.specs.Rules.{containsAllRule, containsAnyRule, isFullRule, isClearRule};
+ghost use Rattle.range_tests.specs.Words.{differs};
+
+// Whether some bit of the range differs from the bit of `skip` in its place.
+fn some_other(words: &[u64], start: usize, end: usize, skip: u64) -> bool
+    requires { ⌜ end ≤ length (now words) * 64 ⌝ }
+    ensures { λ r. ⌜ r ≡ some end (λ (p : ℕ). covers start end p && differs (now (words .entry)) skip p) ⌝ }
+{
+    let masks = Masks::new(start, end);
+    let first = masks.first_block;
+    if masks.end_block <= first {
+        return false;
+    }
+    if (words[first] ^ skip) & masks.first_mask != 0 {
+        return true;
+    }
+    let last = masks.end_block - 1;
+    if last <= first {
+        return false;
+    }
+    if first_other(words, first + 1, last, skip) < last {
+        return true;
+    }
+    (words[last] ^ skip) & masks.last_mask != 0
+}
 
 // Whether each position of the range is a member.
 pub fn contains_all_in_range(set: FixedBitSet, words: &[u64], start: usize, end: usize) -> Told

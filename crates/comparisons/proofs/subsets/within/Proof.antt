@@ -16,9 +16,7 @@ common-blocks-requires : tie.Need-common-blocks-requires
 common-blocks-requires c κs = search needs
 
 first-joined-requires : tie.Need-first-joined-requires
-first-joined-requires c κs =
-    let a = c .before .before .before .args in
-    common-lent (a .a) (now (a .words)) (a .b) (now (a .other)) (c .before .before .before .pre) (c .common-blocks .ensures)
+first-joined-requires c κs = search needs
 
 -- the search over the common words
 known : (c : tie.After-first-joined)
@@ -31,7 +29,8 @@ known c =
       all-common = c .before .common-blocks .ensures;
       first =
           first-difference (now (a .words)) (now (a .other)) (λ k. c .before .before .before .shared-slice-known .given k .fits)
-          (λ k. c .before .before .shared-slice-known2 .given k .fits) (c .first-joined .ensures);
+          (λ k. c .before .before .shared-slice-known2 .given k .fits)
+          (common-lent (a .a) (now (a .words)) (a .b) (now (a .other)) (c .before .before .before .before .pre) (c .before .common-blocks .ensures)) (c .first-joined .ensures);
     }
 
 returns : tie.Need-returns

@@ -12,7 +12,7 @@ use Rattle.sets.proofs.WordLaws.{words-hold}
 use Rattle.queries.specs.declared.found.Position.{Position}
 use Rattle.queries.specs.declared.found.Position.the-variants.{At}
 use Rattle.extremes.proofs.EndLaws.{least-none, least-at}
-use Rattle.queries.proofs.ScanLaws.{scan-before, scan-stop}
+use Rattle.queries.proofs.ScanLaws.{scan-whole, scan-before, scan-stop}
 use borrow.Author.Needs.{needs}
 use native.Mathlib.Omega.{arith}
 use Rattle.extremes.proofs.ends.minimum.Statement.{statement}
@@ -32,13 +32,13 @@ held : (c : tie.Else1) → Valid (c .before .before .before .args .set) (now (c 
 held c = valid _ _ (sym (c .before .check .ensures) ∙ c .if1 .left)
 
 first-other-requires : tie.Need-first-other-requires
-first-other-requires c κs = (omega arith, rw (c .blocks-of .ensures) (held (c .before) .enough))
+first-other-requires c κs = search needs
 
 returns-2 : tie.Need-returns-2
 returns-2 c =
     let a = c .before .before .before .before .before .before .args in
     let w : ℕ → ℕ = λ i. getD (now (a .words)) i 0 in
-    let e = rw (c .before .before .blocks-of .ensures) at (c .before .first-other .ensures) in
+    let e = scan-whole w 0 (wordsOf (a .set .length)) 0 (held (c .before .before .before) .enough) (rw (c .before .before .blocks-of .ensures) at (c .before .first-other .ensures)) in
     let h = rw (c .before .before .blocks-of .ensures) at (c .if2 .taken) in
     given-yes _ (sym (c .before .before .before .if1 .left) ∙ c .before .before .before .before .check .ensures)
     (ap (λ (p : Position). record { number = 0; at = p })
@@ -72,7 +72,7 @@ returns-3 c =
     let w : ℕ → ℕ = λ i. getD (now (a .words)) i 0 in
     let n = wordsOf (a .set .length) in
     let k = c .before .before .before .first-other .result in
-    let e = rw (c .before .before .before .before .blocks-of .ensures) at (c .before .before .before .first-other .ensures) in
+    let e = scan-whole w 0 n 0 (held (c .before .before .before .before .before) .enough) (rw (c .before .before .before .before .blocks-of .ensures) at (c .before .before .before .first-other .ensures)) in
     let h = rw (c .before .before .before .before .blocks-of .ensures) at (c .before .before .if2 .left) in
     given-yes _ (sym (c .before .before .before .before .before .if1 .left) ∙ c .before .before .before .before .before .before .check .ensures)
     (ap (λ (p : Position). record { number = 0; at = p })

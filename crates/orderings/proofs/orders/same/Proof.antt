@@ -13,20 +13,19 @@ blocks-of-requires : tie.Need-blocks-of-requires
 blocks-of-requires c κs = search needs
 
 first-joined-requires : tie.Need-first-joined-requires
-first-joined-requires c κs =
-    let a = c .before .before .before .before .before .before .args in
-    common-lent (a .a) (now (a .words)) (a .b) (now (a .other)) (c .before .before .before .before .before .before .pre)
-    (same-common (a .a) (a .b) (c .before .if1 .left) (c .blocks-of .ensures))
+first-joined-requires c κs = search needs
 
 returns-2 : tie.Need-returns-2
 returns-2 c =
     let a = c .before .before .before .before .before .before .before .args in
+    let all = same-common (a .a) (a .b) (c .before .before .if1 .left) (c .before .blocks-of .ensures) in
     equal-is (record {
       sound = both-of (a .a) (now (a .words)) (a .b) (now (a .other)) (c .before .before .before .before .before .before .before .pre);
-      all-common = same-common (a .a) (a .b) (c .before .before .if1 .left) (c .before .blocks-of .ensures);
+      all-common = all;
       first =
           first-symmetric (now (a .words)) (now (a .other)) (λ k. c .before .before .before .before .before .before .shared-slice-known .given k .fits)
-          (λ k. c .before .before .before .before .before .shared-slice-known2 .given k .fits) (c .first-joined .ensures);
+          (λ k. c .before .before .before .before .before .shared-slice-known2 .given k .fits)
+          (common-lent (a .a) (now (a .words)) (a .b) (now (a .other)) (c .before .before .before .before .before .before .before .pre) all) (c .first-joined .ensures);
     }) (c .before .before .if1 .left)
 
 pub same-spec : {M : Type 1} → statement M

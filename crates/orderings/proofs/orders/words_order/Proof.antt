@@ -12,7 +12,7 @@ returns : tie.Need-returns
 returns c =
     let a = c .before .before .before .before .args in
     none-differ (now (a .words)) (now (a .other)) (λ k. c .before .before .before .shared-slice-known .given k .fits) (λ k. c .before .before .shared-slice-known2 .given k .fits)
-    (c .before .first-joined .ensures) (c .if1 .taken)
+    (c .before .before .before .before .pre) (c .before .first-joined .ensures) (c .if1 .taken)
 
 mul-if2 : tie.Need-mul-if2
 mul-if2 c = search needs
@@ -30,13 +30,13 @@ returns-2 : tie.Need-returns-2
 returns-2 c =
     let a = c .before .before .before .before .before .before .before .args in
     word-below (now (a .words)) (now (a .other)) (λ k. c .before .before .before .before .before .before .shared-slice-known .given k .fits) (λ k. c .before .before .before .before .before .shared-slice-known2 .given k .fits)
-    (c .before .before .before .before .first-joined .ensures) (c .before .before .before .if1 .left) (c .if2 .taken)
+    (c .before .before .before .before .before .before .before .pre) (c .before .before .before .before .first-joined .ensures) (c .before .before .before .if1 .left) (c .if2 .taken)
 
 returns-3 : tie.Need-returns-3
 returns-3 c =
     let a = c .before .before .before .before .before .before .before .args in
     word-above (now (a .words)) (now (a .other)) (λ k. c .before .before .before .before .before .before .shared-slice-known .given k .fits) (λ k. c .before .before .before .before .before .shared-slice-known2 .given k .fits)
-    (c .before .before .before .before .first-joined .ensures) (c .before .before .before .if1 .left) (c .if2 .left)
+    (c .before .before .before .before .before .before .before .pre) (c .before .before .before .before .first-joined .ensures) (c .before .before .before .if1 .left) (c .if2 .left)
 
 pub words-order-spec : {M : Type 1} → statement M
 words-order-spec =

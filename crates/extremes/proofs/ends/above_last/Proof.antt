@@ -1,13 +1,13 @@
--- `queries::scans::above_last` meets its contract. Each word k..end is 0. Assumes nothing.
+-- `extremes::ends::above_last` meets its contract. Each word k..end is 0. Assumes nothing.
 use mathlib.Core.Path.{_≡_, sym, _∙_}
 use Prim.Native.Nat.{ℕ, _≤_, _<_, _-_, _+_}
 use denote.Ref.{now}
 use lib.ListN.{getD}
 use Rattle.queries.proofs.ScanLaws.{descend-all, descend-at, less}
 use borrow.Author.Needs.{needs}
 use native.Mathlib.Omega.{arith}
-use Rattle.queries.proofs.scans.above_last.Statement.{statement}
-use Rattle.queries.proofs.scans.above_last.Tie as tie
+use Rattle.extremes.proofs.ends.above_last.Statement.{statement}
+use Rattle.extremes.proofs.ends.above_last.Tie as tie
 
 abbrev Inv-loop : tie.InvT-loop
 Inv-loop words end k₀ k = (k ≤ end) × ((i : ℕ) → k ≤ i → i < end → getD words i 0 ≡ 0)

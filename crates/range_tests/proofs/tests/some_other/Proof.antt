@@ -1,16 +1,16 @@
--- `queries::tests::some_other` meets its contract. Assumes nothing.
-use mathlib.Core.Path.{sym}
+-- `range_tests::tests::some_other` meets its contract. Assumes nothing.
+use mathlib.Core.Path.{_≡_, sym}
 use Prim.Native.Nat.{ℕ, _+_, _-_, _/_}
 use denote.Ref.{now}
 use lib.ListN.{getD}
 use Rattle.masks.specs.Ranges.{endBlock}
 use Rattle.queries.proofs.PartLaws.{meets}
-use Rattle.queries.proofs.ScanLaws.{scan-before, scan-stop}
-use Rattle.queries.proofs.TestLaws.{other-empty, other-one, other-at, other-between, other-last}
+use Rattle.queries.proofs.ScanLaws.{firstOther, scan-whole, scan-before, scan-stop}
+use Rattle.range_tests.proofs.TestLaws.{other-empty, other-one, other-at, other-between, other-last}
 use borrow.Author.Needs.{needs}
 use native.Mathlib.Omega.{arith}
-use Rattle.queries.proofs.tests.some_other.Statement.{statement}
-use Rattle.queries.proofs.tests.some_other.Tie as tie
+use Rattle.range_tests.proofs.tests.some_other.Statement.{statement}
+use Rattle.range_tests.proofs.tests.some_other.Tie as tie
 
 new-requires : tie.Need-new-requires
 new-requires c κs = search needs
@@ -45,11 +45,20 @@ add-first-other : tie.Need-add-first-other
 add-first-other c = search needs
 
 first-other-requires : tie.Need-first-other-requires
-first-other-requires c κs =
-    let met = c .before .before .before .before .before .before .before .new .ensures in
-    let m = meets _ _ (rw met at (c .before .before .before .before .before .if1 .left)) in
-    let l = rw met at (c .if3 .left) in
-    rw met (omega arith, omega (arith, m .tight))
+first-other-requires c κs = search needs
+
+-- the search over the words between the first and the last ends in the slice
+between : (c : tie.After-first-other)
+    → c .first-other .result
+    ≡ firstOther (λ i. getD (now (c .before .before .before .before .before .before .before .before .before .before .args .words)) i 0)
+    (c .before .before .before .before .before .before .before .before .before .before .args .start / 64 + 1)
+    (endBlock (c .before .before .before .before .before .before .before .before .before .before .args .start) (c .before .before .before .before .before .before .before .before .before .before .args .end) - 1)
+    (c .before .before .before .before .before .before .before .before .before .before .args .skip)
+between c =
+    let met = c .before .before .before .before .before .before .before .before .new .ensures in
+    let m = meets _ _ (rw met at (c .before .before .before .before .before .before .if1 .left)) in
+    let a = c .before .before .before .before .before .before .before .before .before .before .args in
+    scan-whole (λ i. getD (now (a .words)) i 0) (a .start / 64 + 1) (endBlock (a .start) (a .end) - 1) (a .skip) (omega (arith, m .tight)) (rw met at (c .first-other .ensures))
 
 returns-4 : tie.Need-returns-4
 returns-4 c =
@@ -58,7 +67,7 @@ returns-4 c =
     let w : ℕ → ℕ = λ i. getD (now (a .words)) i 0 in
     let l = rw met at (c .before .before .if3 .left) in
     let h = rw met at (c .if4 .taken) in
-    let e = rw met at (c .before .first-other .ensures) in
+    let e = between (c .before) in
     let r = c .before .first-other .result in
     sym (other-between (a .start) (a .end) (a .skip) (now (a .words)) (c .before .before .before .before .before .before .before .before .before .before .before .fits .skip .fits) r (omega arith) (omega arith)
     (c .before .before .before .before .before .before .shared-slice-known2 .given r .fits) (scan-stop w (a .start / 64 + 1) (endBlock (a .start) (a .end) - 1) (a .skip) r e h))
@@ -83,7 +92,7 @@ returns-5 c =
     let w : ℕ → ℕ = λ i. getD (now (a .words)) i 0 in
     let l = rw met at (c .before .before .before .before .if3 .left) in
     let h = rw met at (c .before .before .if4 .left) in
-    let e = rw met at (c .before .before .before .first-other .ensures) in
+    let e = between (c .before .before .before) in
     rw met
     (other-last (a .start) (a .end) (a .skip) (now (a .words)) (c .before .before .before .before .before .before .before .before .before .before .before .before .before .fits .skip .fits) last (omega arith) (c .before .shared-slice-known3 .given last .fits)
     (rw met at (c .before .before .before .before .before .before .if2 .left))

@@ -1,27 +1,62 @@
 -- Tests of a range, word by word: some bit of it differs from that of `skip`. Assumes nothing.
 use mathlib.Core.Path.{_≡_, refl, sym, ap, ap₂, _∙_}
-use mathlib.Core.Bool.{Bool, true, false, not, xor}
+use mathlib.Core.Bool.{Bool, true, false, not, xor, false≢true}
 use mathlib.Core.List.{List}
 use mathlib.Core.Logic.{_⊎_, inl, inr}
 use Prim.Native.Nat.{ℕ, _+_, _-_, _*_, _/_, _%_, _^_, _≤_, _<_}
-use native.Mathlib.Nat.{mod-eq-of-lt}
+use native.Mathlib.Nat.{div-add-mod', lt-of-le-of-lt, mod-eq-of-lt}
 use native.Mathlib.Omega.{arith}
 use borrow.Author.Tests.{eqb-true, eqb-false}
 use lib.Bits.{bitAnd, bitXor, and-le-l, and-le-r, and-mask, and-zero-l, xor-add-and, xor-lt, xor-self}
 use lib.Dec.{eqb, lit<}
 use lib.ListN.{getD}
 use Rattle.word_bits.specs.Digits.{digit}
-use Rattle.word_bits.specs.Counts.{some}
+use Rattle.word_bits.specs.Counts.{some, zerosBelow}
 use Rattle.word_bits.proofs.Digits.{digit-of-zero}
+use Rattle.word_bits.proofs.Ends.{below-lt, below-yes}
 use Rattle.word_bits.proofs.Operations.{digit-xor, digit-not}
 use Rattle.word_bits.proofs.Order.{lt-or-le}
+use Rattle.word_bits.proofs.Quantifiers.{some-yes, some-no}
 use Rattle.masks.specs.Ranges.{endBlock}
 use Rattle.masks.specs.RangeMasks.{rangeMask}
 use Rattle.masks.proofs.MaskLaws.{mask-whole}
+use Rattle.masks.proofs.RangeLaws.{end-block}
 use Rattle.sets.specs.Members.{bitOf}
 use Rattle.sets.proofs.WordLaws.{bit-at}
-use Rattle.queries.specs.Words.{differs}
-use Rattle.queries.proofs.PartLaws.{part, none-in-words, masked-none, masked-some}
+use Rattle.queries.proofs.PartLaws.{part, part-below, part-above, masked-digit}
+use Rattle.range_tests.specs.Words.{differs}
+
+-- ---- the part of a row that a range covers
+
+module _ (start end : ℕ) (f : ℕ → Bool) where
+  some-part : (p : ℕ) → part start end f p ≡ true → some end (part start end f) ≡ true
+  some-part p y = go (lt-or-le p end)
+    where
+      go : (p < end) ⊎ (end ≤ p) → some end (part start end f) ≡ true
+      go (inl l) = some-yes end (part start end f) p l y
+      go (inr g) = absurd (false≢true (sym (part-above start end f p g) ∙ y))
+
+  -- no yes in the words that the range meets
+  none-in-words : ((k j : ℕ) → start / 64 ≤ k → k < endBlock start end → j < 64 → part start end f (k * 64 + j) ≡ false)
+      → some end (part start end f) ≡ false
+  none-in-words zs = some-no end (part start end f) (λ p h. go p h (lt-or-le p start))
+    where
+      go : (p : ℕ) → p < end → (p < start) ⊎ (start ≤ p) → part start end f p ≡ false
+      go p h (inl l) = part-below start end f p l
+      go p h (inr g) =
+          let e = end-block start end (omega arith) in
+          ap (part start end f) (sym (div-add-mod' p 64)) ∙ zs (p / 64) (p % 64) (omega arith) (omega arith) (omega arith)
+
+-- word k of the row, under the mask
+module _ (start end k w : ℕ) (f : ℕ → Bool) (same : (j : ℕ) → j < 64 → digit w j ≡ f (k * 64 + j)) where
+  masked-none : bitAnd w (rangeMask start end k) ≡ 0 → (j : ℕ) → j < 64 → part start end f (k * 64 + j) ≡ false
+  masked-none z j l = sym (masked-digit start end k w f same j l) ∙ ap (λ (y : ℕ). digit y j) z ∙ digit-of-zero j
+
+  masked-some : w < 2 ^ 64 → (bitAnd w (rangeMask start end k) ≡ 0 → ⊥) → some end (part start end f) ≡ true
+  masked-some fit n =
+      let x : ℕ = bitAnd w (rangeMask start end k) in
+      let low : zerosBelow 64 (digit x) < 64 = below-lt 64 x (omega arith) (lt-of-le-of-lt (and-le-l w (rangeMask start end k)) fit) in
+      some-part start end f (k * 64 + zerosBelow 64 (digit x)) (sym (masked-digit start end k w f same (zerosBelow 64 (digit x)) low) ∙ below-yes 64 (digit x) low)
 
 -- ---- words
 
