@@ -1,2 +1,1 @@
 pub mod PositionChanges
-mod Examples

@@ -1,2 +1,1 @@
 pub mod RangeChanges
-mod Examples

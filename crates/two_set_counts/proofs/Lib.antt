@@ -3,4 +3,3 @@ pub mod RestLaws
 pub mod JointLaws
 pub mod ListLaws
 pub mod CountRules
-mod Examples

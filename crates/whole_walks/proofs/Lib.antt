@@ -1,4 +1,3 @@
-pub mod Examples
 pub mod PartLists
 pub mod PartSteps
 pub mod WalkSteps
