@@ -1,0 +1,15 @@
+-- `exports::answers::stepped_pair` meets its contract. Assumes nothing.
+use Rattle.exports.specs.Answers.{exportSteppedPair}
+use borrow.Author.Needs.{needs}
+use Rattle.exports.proofs.answers.stepped_pair.Statement.{statement}
+use Rattle.exports.proofs.answers.stepped_pair.Tie as tie
+
+place-of-requires : tie.Need-place-of-requires
+place-of-requires c κs = search needs
+
+returns : tie.Need-returns
+unfolding exportSteppedPair
+returns c = rw (c .place-of .ensures)
+
+pub stepped-pair-spec : {M : Type 1} → statement M
+stepped-pair-spec = tie.close (tie.spec place-of-requires returns)

@@ -1,0 +1,18 @@
+-- `exports::pair_walk_calls::fbs_intersection_next_back` meets its contract. Assumes nothing.
+use mathlib.Core.Path.{ap, _∙_}
+use Rattle.exports.specs.Answers.{exportStepped}
+use borrow.Author.Needs.{needs}
+use Rattle.exports.proofs.pair_walk_calls.fbs_intersection_next_back.Statement.{statement}
+use Rattle.exports.proofs.pair_walk_calls.fbs_intersection_next_back.Tie as tie
+
+intersection-next-back-requires : tie.Need-intersection-next-back-requires
+intersection-next-back-requires c κs = search needs
+
+stepped-requires : tie.Need-stepped-requires
+stepped-requires c κs = search needs
+
+returns : tie.Need-returns
+returns c = c .stepped .ensures ∙ ap exportStepped (c .before .intersection-next-back .ensures)
+
+pub fbs-intersection-next-back-spec : {M : Type 1} → statement M
+fbs-intersection-next-back-spec = tie.close (tie.spec intersection-next-back-requires stepped-requires returns)

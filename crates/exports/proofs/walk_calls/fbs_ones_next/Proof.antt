@@ -1,0 +1,18 @@
+-- `exports::walk_calls::fbs_ones_next` meets its contract. Assumes nothing.
+use mathlib.Core.Path.{ap, _∙_}
+use Rattle.exports.specs.Answers.{exportStepped}
+use borrow.Author.Needs.{needs}
+use Rattle.exports.proofs.walk_calls.fbs_ones_next.Statement.{statement}
+use Rattle.exports.proofs.walk_calls.fbs_ones_next.Tie as tie
+
+ones-next-requires : tie.Need-ones-next-requires
+ones-next-requires c κs = search needs
+
+stepped-requires : tie.Need-stepped-requires
+stepped-requires c κs = search needs
+
+returns : tie.Need-returns
+returns c = c .stepped .ensures ∙ ap exportStepped (c .before .ones-next .ensures)
+
+pub fbs-ones-next-spec : {M : Type 1} → statement M
+fbs-ones-next-spec = tie.close (tie.spec ones-next-requires stepped-requires returns)

@@ -1,0 +1,28 @@
+-- `exports::walk_calls::fbs_walker_step` meets its contract. Assumes nothing.
+use mathlib.Core.Path.{ap, _∙_}
+use denote.Ref.{now}
+use Rattle.parts.specs.declared.records.End.{End}
+use Rattle.walkers.specs.Rules.{walkerRule}
+use Rattle.exports.specs.Answers.{exportStepped}
+use borrow.Author.Needs.{needs}
+use Rattle.exports.proofs.walk_calls.fbs_walker_step.Statement.{statement}
+use Rattle.exports.proofs.walk_calls.fbs_walker_step.Tie as tie
+
+end-at-requires : tie.Need-end-at-requires
+end-at-requires c κs = search needs
+
+walker-step-requires : tie.Need-walker-step-requires
+walker-step-requires c κs = search needs
+
+stepped-requires : tie.Need-stepped-requires
+stepped-requires c κs = search needs
+
+returns : tie.Need-returns
+returns c =
+    let a = c .before .before .before .before .args in
+    c .stepped .ensures
+    ∙ ap exportStepped (c .before .walker-step .ensures ∙ ap (λ (e : End). walkerRule e (a .set) (now (a .words)) (a .part)) (c .before .before .end-at .ensures))
+
+pub fbs-walker-step-spec : {M : Type 1} → statement M
+fbs-walker-step-spec =
+    tie.close (tie.spec end-at-requires walker-step-requires stepped-requires returns)

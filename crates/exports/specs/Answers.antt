@@ -1,0 +1,32 @@
+-- Answers as C takes them.
+use mathlib.Core.Bool.{Bool, true, false, cond}
+use Rattle.queries.specs.declared.found.Found.{Found}
+use Rattle.queries.specs.declared.found.Position.{Position}
+use Rattle.queries.specs.declared.found.Position.the-variants.{At, Nothing}
+use Rattle.parts.specs.declared.records.End.{End}
+use Rattle.parts.specs.declared.records.End.the-variants.{Front, Back}
+use Rattle.walks.specs.declared.records.Stepped.{Stepped}
+use Rattle.two_part_walks.specs.declared.records.SteppedPair.{SteppedPair}
+use Rattle.exports.specs.declared.answers.Place.{Place}
+use Rattle.exports.specs.declared.answers.FbsFound.{FbsFound}
+use Rattle.exports.specs.declared.answers.FbsStepped.{FbsStepped}
+use Rattle.exports.specs.declared.answers.FbsSteppedPair.{FbsSteppedPair}
+
+-- a position is found; for none, 0 stands in its place
+abbrev pub placeOf : Position → Place
+placeOf (At p) = record { found = true; at = p }
+placeOf Nothing = record { found = false; at = 0 }
+
+unfoldable pub exportFound : Found → FbsFound
+exportFound r = record { number = r .number; found = placeOf (r .at) .found; at = placeOf (r .at) .at }
+
+-- the records of the parts are as the step left them
+unfoldable pub exportStepped : Stepped → FbsStepped
+exportStepped r = record { number = r .number; found = placeOf (r .at) .found; at = placeOf (r .at) .at; part = r .part }
+
+unfoldable pub exportSteppedPair : SteppedPair → FbsSteppedPair
+exportSteppedPair r = record { number = r .number; found = placeOf (r .at) .found; at = placeOf (r .at) .at; one = r .one; two = r .two }
+
+-- the end that a yes or no names
+abbrev pub endAt : Bool → End
+endAt back = cond back Back Front

@@ -1,0 +1,137 @@
+use edits::Replaced;
+use edits::copy_bit;
+use edits::insert;
+use edits::put;
+use edits::remove;
+use edits::toggle;
+use growth::clear;
+use growth::grow;
+use growth::grow_and_insert;
+use range_edits::insert_range;
+use range_edits::remove_range;
+use range_edits::set_range;
+use range_edits::toggle_range;
+use sets::Edited;
+use sets::FixedBitSet;
+ghost use mathlib.Core.Path.{_≡_};
+ghost use Rattle.sets.specs.Outcomes.{outcome};
+ghost use Rattle.edits.specs.Rules.{insertRule, removeRule, toggleRule, setRule, copyBitRule, putOutcome, putRule};
+ghost use Rattle.range_edits.specs.Rules.{insertRangeRule, removeRangeRule, toggleRangeRule, setRangeRule};
+ghost use Rattle.growth.specs.Rules.{clearRule, growRule, growAndInsertRule};
+
+#[no_mangle]
+pub extern "C" fn fbs_insert(set: FixedBitSet, words: &mut [u64], bit: usize) -> Edited
+    ensures { λ r. ⌜ outcome r (now (words .exit)) ≡ insertRule set bit (now (words .entry)) ⌝ }
+{
+    insert(set, words, bit)
+}
+
+#[no_mangle]
+pub extern "C" fn fbs_remove(set: FixedBitSet, words: &mut [u64], bit: usize) -> Edited
+    ensures { λ r. ⌜ outcome r (now (words .exit)) ≡ removeRule set bit (now (words .entry)) ⌝ }
+{
+    remove(set, words, bit)
+}
+
+#[no_mangle]
+pub extern "C" fn fbs_put(set: FixedBitSet, words: &mut [u64], bit: usize) -> Replaced
+    ensures { λ r. ⌜ putOutcome r (now (words .exit)) ≡ putRule set bit (now (words .entry)) ⌝ }
+{
+    put(set, words, bit)
+}
+
+#[no_mangle]
+pub extern "C" fn fbs_toggle(set: FixedBitSet, words: &mut [u64], bit: usize) -> Edited
+    ensures { λ r. ⌜ outcome r (now (words .exit)) ≡ toggleRule set bit (now (words .entry)) ⌝ }
+{
+    toggle(set, words, bit)
+}
+
+#[no_mangle]
+pub extern "C" fn fbs_set(set: FixedBitSet, words: &mut [u64], bit: usize, enabled: bool) -> Edited
+    ensures { λ r. ⌜ outcome r (now (words .exit)) ≡ setRule set bit enabled (now (words .entry)) ⌝ }
+{
+    edits::set(set, words, bit, enabled)
+}
+
+#[no_mangle]
+pub extern "C" fn fbs_copy_bit(
+    set: FixedBitSet,
+    words: &mut [u64],
+    from: usize,
+    to: usize,
+) -> Edited
+    ensures { λ r. ⌜ outcome r (now (words .exit)) ≡ copyBitRule set from to (now (words .entry)) ⌝ }
+{
+    copy_bit(set, words, from, to)
+}
+
+#[no_mangle]
+pub extern "C" fn fbs_insert_range(
+    set: FixedBitSet,
+    words: &mut [u64],
+    start: usize,
+    end: usize,
+) -> Edited
+    ensures { λ r. ⌜ outcome r (now (words .exit)) ≡ insertRangeRule set start end (now (words .entry)) ⌝ }
+{
+    insert_range(set, words, start, end)
+}
+
+#[no_mangle]
+pub extern "C" fn fbs_remove_range(
+    set: FixedBitSet,
+    words: &mut [u64],
+    start: usize,
+    end: usize,
+) -> Edited
+    ensures { λ r. ⌜ outcome r (now (words .exit)) ≡ removeRangeRule set start end (now (words .entry)) ⌝ }
+{
+    remove_range(set, words, start, end)
+}
+
+#[no_mangle]
+pub extern "C" fn fbs_toggle_range(
+    set: FixedBitSet,
+    words: &mut [u64],
+    start: usize,
+    end: usize,
+) -> Edited
+    ensures { λ r. ⌜ outcome r (now (words .exit)) ≡ toggleRangeRule set start end (now (words .entry)) ⌝ }
+{
+    toggle_range(set, words, start, end)
+}
+
+#[no_mangle]
+pub extern "C" fn fbs_set_range(
+    set: FixedBitSet,
+    words: &mut [u64],
+    start: usize,
+    end: usize,
+    enabled: bool,
+) -> Edited
+    ensures { λ r. ⌜ outcome r (now (words .exit)) ≡ setRangeRule set start end enabled (now (words .entry)) ⌝ }
+{
+    set_range(set, words, start, end, enabled)
+}
+
+#[no_mangle]
+pub extern "C" fn fbs_clear(set: FixedBitSet, words: &mut [u64]) -> Edited
+    ensures { λ r. ⌜ outcome r (now (words .exit)) ≡ clearRule set (now (words .entry)) ⌝ }
+{
+    clear(set, words)
+}
+
+#[no_mangle]
+pub extern "C" fn fbs_grow(set: FixedBitSet, words: &mut [u64], bits: usize) -> Edited
+    ensures { λ r. ⌜ outcome r (now (words .exit)) ≡ growRule set bits (now (words .entry)) ⌝ }
+{
+    grow(set, words, bits)
+}
+
+#[no_mangle]
+pub extern "C" fn fbs_grow_and_insert(set: FixedBitSet, words: &mut [u64], bit: usize) -> Edited
+    ensures { λ r. ⌜ outcome r (now (words .exit)) ≡ growAndInsertRule set bit (now (words .entry)) ⌝ }
+{
+    grow_and_insert(set, words, bit)
+}

@@ -1,0 +1,103 @@
+use crate::answers::FbsFound;
+use crate::answers::found;
+use extremes::maximum;
+use extremes::minimum;
+use queries::contains;
+use range_counts::count_ones;
+use range_counts::count_zeroes;
+use range_tests::contains_all_in_range;
+use range_tests::contains_any_in_range;
+use range_tests::is_clear;
+use range_tests::is_full;
+use sets::Counted;
+use sets::FixedBitSet;
+use sets::Told;
+ghost use mathlib.Core.Path.{_≡_};
+ghost use Rattle.queries.specs.Rules.{containsRule};
+ghost use Rattle.range_tests.specs.Rules.{containsAllRule, containsAnyRule, isFullRule, isClearRule};
+ghost use Rattle.range_counts.specs.Rules.{countOnesRule, countZeroesRule};
+ghost use Rattle.extremes.specs.Rules.{minimumRule, maximumRule};
+ghost use Rattle.exports.specs.Answers.{exportFound};
+
+#[no_mangle]
+pub extern "C" fn fbs_contains(set: FixedBitSet, words: &[u64], bit: usize) -> Told
+    ensures { λ r. ⌜ r ≡ containsRule set bit (now (words .entry)) ⌝ }
+{
+    contains(set, words, bit)
+}
+
+#[no_mangle]
+pub extern "C" fn fbs_contains_all_in_range(
+    set: FixedBitSet,
+    words: &[u64],
+    start: usize,
+    end: usize,
+) -> Told
+    ensures { λ r. ⌜ r ≡ containsAllRule set start end (now (words .entry)) ⌝ }
+{
+    contains_all_in_range(set, words, start, end)
+}
+
+#[no_mangle]
+pub extern "C" fn fbs_contains_any_in_range(
+    set: FixedBitSet,
+    words: &[u64],
+    start: usize,
+    end: usize,
+) -> Told
+    ensures { λ r. ⌜ r ≡ containsAnyRule set start end (now (words .entry)) ⌝ }
+{
+    contains_any_in_range(set, words, start, end)
+}
+
+#[no_mangle]
+pub extern "C" fn fbs_is_full(set: FixedBitSet, words: &[u64]) -> Told
+    ensures { λ r. ⌜ r ≡ isFullRule set (now (words .entry)) ⌝ }
+{
+    is_full(set, words)
+}
+
+#[no_mangle]
+pub extern "C" fn fbs_is_clear(set: FixedBitSet, words: &[u64]) -> Told
+    ensures { λ r. ⌜ r ≡ isClearRule set (now (words .entry)) ⌝ }
+{
+    is_clear(set, words)
+}
+
+#[no_mangle]
+pub extern "C" fn fbs_count_ones(
+    set: FixedBitSet,
+    words: &[u64],
+    start: usize,
+    end: usize,
+) -> Counted
+    ensures { λ r. ⌜ r ≡ countOnesRule set start end (now (words .entry)) ⌝ }
+{
+    count_ones(set, words, start, end)
+}
+
+#[no_mangle]
+pub extern "C" fn fbs_count_zeroes(
+    set: FixedBitSet,
+    words: &[u64],
+    start: usize,
+    end: usize,
+) -> Counted
+    ensures { λ r. ⌜ r ≡ countZeroesRule set start end (now (words .entry)) ⌝ }
+{
+    count_zeroes(set, words, start, end)
+}
+
+#[no_mangle]
+pub extern "C" fn fbs_minimum(set: FixedBitSet, words: &[u64]) -> FbsFound
+    ensures { λ r. ⌜ r ≡ exportFound (minimumRule set (now (words .entry))) ⌝ }
+{
+    found(minimum(set, words))
+}
+
+#[no_mangle]
+pub extern "C" fn fbs_maximum(set: FixedBitSet, words: &[u64]) -> FbsFound
+    ensures { λ r. ⌜ r ≡ exportFound (maximumRule set (now (words .entry))) ⌝ }
+{
+    found(maximum(set, words))
+}

@@ -1,0 +1,150 @@
+use crate::answers::FbsLonger;
+use comparisons::is_disjoint;
+use comparisons::is_subset;
+use comparisons::is_superset;
+use longer_sets::longer;
+use longer_sets::longer_number;
+use orderings::Compared;
+use orderings::cmp;
+use orderings::eq;
+use sets::Counted;
+use sets::FixedBitSet;
+use sets::Told;
+use two_set_counts::difference_count;
+use two_set_counts::intersection_count;
+use two_set_counts::symmetric_difference_count;
+use two_set_counts::union_count;
+ghost use mathlib.Core.Path.{_≡_};
+ghost use mathlib.Core.Bool.{cond};
+ghost use Rattle.two_sets.specs.Rules.{bothQuestions};
+ghost use Rattle.two_set_counts.specs.Rules.{unionCountRule, intersectionCountRule, differenceCountRule, symmetricDifferenceCountRule};
+ghost use Rattle.comparisons.specs.Rules.{isDisjointRule, isSubsetRule, isSupersetRule};
+ghost use Rattle.orderings.specs.Rules.{eqRule, cmpRule};
+ghost use Rattle.longer_sets.specs.Rules.{longerRule};
+ghost use Rattle.exports.specs.Slices.{PartOf};
+
+#[no_mangle]
+pub extern "C" fn fbs_union_count(
+    a: FixedBitSet,
+    words: &[u64],
+    b: FixedBitSet,
+    other: &[u64],
+) -> Counted
+    ensures { λ r. ⌜ r ≡ unionCountRule a (now (words .entry)) b (now (other .entry)) ⌝ }
+{
+    union_count(a, words, b, other)
+}
+
+#[no_mangle]
+pub extern "C" fn fbs_intersection_count(
+    a: FixedBitSet,
+    words: &[u64],
+    b: FixedBitSet,
+    other: &[u64],
+) -> Counted
+    ensures { λ r. ⌜ r ≡ intersectionCountRule a (now (words .entry)) b (now (other .entry)) ⌝ }
+{
+    intersection_count(a, words, b, other)
+}
+
+#[no_mangle]
+pub extern "C" fn fbs_difference_count(
+    a: FixedBitSet,
+    words: &[u64],
+    b: FixedBitSet,
+    other: &[u64],
+) -> Counted
+    ensures { λ r. ⌜ r ≡ differenceCountRule a (now (words .entry)) b (now (other .entry)) ⌝ }
+{
+    difference_count(a, words, b, other)
+}
+
+#[no_mangle]
+pub extern "C" fn fbs_symmetric_difference_count(
+    a: FixedBitSet,
+    words: &[u64],
+    b: FixedBitSet,
+    other: &[u64],
+) -> Counted
+    ensures { λ r. ⌜ r ≡ symmetricDifferenceCountRule a (now (words .entry)) b (now (other .entry)) ⌝ }
+{
+    symmetric_difference_count(a, words, b, other)
+}
+
+#[no_mangle]
+pub extern "C" fn fbs_is_disjoint(
+    a: FixedBitSet,
+    words: &[u64],
+    b: FixedBitSet,
+    other: &[u64],
+) -> Told
+    ensures { λ r. ⌜ r ≡ isDisjointRule a (now (words .entry)) b (now (other .entry)) ⌝ }
+{
+    is_disjoint(a, words, b, other)
+}
+
+#[no_mangle]
+pub extern "C" fn fbs_is_subset(
+    a: FixedBitSet,
+    words: &[u64],
+    b: FixedBitSet,
+    other: &[u64],
+) -> Told
+    ensures { λ r. ⌜ r ≡ isSubsetRule a (now (words .entry)) b (now (other .entry)) ⌝ }
+{
+    is_subset(a, words, b, other)
+}
+
+#[no_mangle]
+pub extern "C" fn fbs_is_superset(
+    a: FixedBitSet,
+    words: &[u64],
+    b: FixedBitSet,
+    other: &[u64],
+) -> Told
+    ensures { λ r. ⌜ r ≡ isSupersetRule a (now (words .entry)) b (now (other .entry)) ⌝ }
+{
+    is_superset(a, words, b, other)
+}
+
+#[no_mangle]
+pub extern "C" fn fbs_eq(a: FixedBitSet, words: &[u64], b: FixedBitSet, other: &[u64]) -> Told
+    ensures { λ r. ⌜ r ≡ eqRule a (now (words .entry)) b (now (other .entry)) ⌝ }
+{
+    eq(a, words, b, other)
+}
+
+#[no_mangle]
+pub extern "C" fn fbs_cmp(a: FixedBitSet, words: &[u64], b: FixedBitSet, other: &[u64]) -> Compared
+    ensures { λ r. ⌜ r ≡ cmpRule a (now (words .entry)) b (now (other .entry)) ⌝ }
+{
+    cmp(a, words, b, other)
+}
+
+#[no_mangle]
+pub extern "C" fn fbs_longer<'a>(
+    a: FixedBitSet,
+    words: &'a [u64],
+    b: FixedBitSet,
+    other: &'a [u64],
+) -> FbsLonger
+    ensures { λ r. ⌜ PartOf (r .offset) (r .count) (cond (r .second) (now (other .entry)) (now (words .entry))) (longerRule a (now (words .entry)) b (now (other .entry))) ⌝ }
+{
+    FbsLonger {
+        second: a.length <= b.length,
+        offset: 0,
+        count: longer(a, words, b, other).len(),
+    }
+}
+
+#[no_mangle]
+pub extern "C" fn fbs_longer_number(
+    a: FixedBitSet,
+    words: &[u64],
+    b: FixedBitSet,
+    other: &[u64],
+) -> u64
+    ensures { λ r. ⌜ r ≡ bothQuestions a (now (words .entry)) b (now (other .entry)) ⌝ }
+{
+    longer_number(a, words, b, other)
+}
