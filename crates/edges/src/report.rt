@@ -7,8 +7,7 @@ use sets::Counted;
 use sets::Edited;
 use sets::Told;
 use std::num::wrapping_add_u64;
-ghost use mathlib.Core.Bool.{true};
-ghost use mathlib.Core.Path.{_≡_};
+use word_lists::same;
 
 // How many cases were run, and how many answered other than the document says.
 pub struct Tally {
@@ -18,23 +17,6 @@ pub struct Tally {
 
 fn say(text: &[u8]) {
     let _written = write_all(1, text);
-}
-
-// Whether both have the same numbers in the same places.
-fn same(a: &[u64], b: &[u64]) -> bool
-    ensures { λ r. ⌜ (r ≡ true → now (a .entry) ≡ now (b .entry)) × (now (a .entry) ≡ now (b .entry) → r ≡ true) ⌝ }
-{
-    if a.len() != b.len() {
-        return false;
-    }
-    let mut k = 0;
-    while k < a.len() {
-        if a[k] != b[k] {
-            return false;
-        }
-        k += 1;
-    }
-    true
 }
 
 // A position, or none.

@@ -1,4 +1,4 @@
--- `edges::report::same` meets its contract. Assumes nothing.
+-- `word_lists::same` meets its contract. Assumes nothing.
 use mathlib.Core.Bool.{false≢true}
 use mathlib.Core.List.{List}
 use mathlib.Core.Logic.{_⊎_, inl, inr}
@@ -10,8 +10,8 @@ use denote.Ref.{now}
 use lib.ListN.{length, getD}
 use lib.Seq.{ext-getD}
 use Rattle.word_bits.proofs.Order.{lt-or-le}
-use Rattle.edges.proofs.report.same.Statement.{statement}
-use Rattle.edges.proofs.report.same.Tie as tie
+use Rattle.word_lists.proofs.lists.same.Statement.{statement}
+use Rattle.word_lists.proofs.lists.same.Tie as tie
 
 abbrev Inv-loop : tie.InvT-loop
 Inv-loop a b k₀ k = (k ≤ length a) × ((i : ℕ) → i < k → getD a i 0 ≡ getD b i 0)
