@@ -1,0 +1,283 @@
+//! What the engines are asked and what they answer: calls, walks and histories as data.
+
+/// A length and the words that are lent for it. The words may be more than the length needs, or fewer.
+#[derive(Clone, Debug, PartialEq, Eq)]
+pub struct Lent {
+    pub length: usize,
+    pub words: Vec<u64>,
+}
+
+/// The calls of a history, in the order of their numbers.
+#[derive(Clone, Copy, Debug, PartialEq, Eq)]
+pub enum Edit {
+    Insert(usize),
+    Remove(usize),
+    Put(usize),
+    Toggle(usize),
+    Set(usize, bool),
+    CopyBit(usize, usize),
+    InsertRange(usize, usize),
+    RemoveRange(usize, usize),
+    ToggleRange(usize, usize),
+    SetRange(usize, usize, bool),
+    Clear,
+    Grow(usize),
+    GrowAndInsert(usize),
+    UnionWith,
+    IntersectWith,
+    DifferenceWith,
+    SymmetricDifferenceWith,
+}
+
+impl Edit {
+    /// How many calls there are; a number from here on names none.
+    pub const CALLS: u64 = 17;
+
+    /// The call of a number, with two numbers and a yes or no.
+    pub fn decode(code: u64, x: usize, y: usize, z: bool) -> Option<Edit> {
+        Some(match code {
+            0 => Edit::Insert(x),
+            1 => Edit::Remove(x),
+            2 => Edit::Put(x),
+            3 => Edit::Toggle(x),
+            4 => Edit::Set(x, z),
+            5 => Edit::CopyBit(x, y),
+            6 => Edit::InsertRange(x, y),
+            7 => Edit::RemoveRange(x, y),
+            8 => Edit::ToggleRange(x, y),
+            9 => Edit::SetRange(x, y, z),
+            10 => Edit::Clear,
+            11 => Edit::Grow(x),
+            12 => Edit::GrowAndInsert(x),
+            13 => Edit::UnionWith,
+            14 => Edit::IntersectWith,
+            15 => Edit::DifferenceWith,
+            16 => Edit::SymmetricDifferenceWith,
+            _ => return None,
+        })
+    }
+
+    /// The set (0 or 1), the call, two numbers and a yes or no.
+    pub fn encode(self, on: u64) -> [u64; 5] {
+        let (code, x, y, z) = match self {
+            Edit::Insert(x) => (0, x, 0, false),
+            Edit::Remove(x) => (1, x, 0, false),
+            Edit::Put(x) => (2, x, 0, false),
+            Edit::Toggle(x) => (3, x, 0, false),
+            Edit::Set(x, z) => (4, x, 0, z),
+            Edit::CopyBit(x, y) => (5, x, y, false),
+            Edit::InsertRange(x, y) => (6, x, y, false),
+            Edit::RemoveRange(x, y) => (7, x, y, false),
+            Edit::ToggleRange(x, y) => (8, x, y, false),
+            Edit::SetRange(x, y, z) => (9, x, y, z),
+            Edit::Clear => (10, 0, 0, false),
+            Edit::Grow(x) => (11, x, 0, false),
+            Edit::GrowAndInsert(x) => (12, x, 0, false),
+            Edit::UnionWith => (13, 0, 0, false),
+            Edit::IntersectWith => (14, 0, 0, false),
+            Edit::DifferenceWith => (15, 0, 0, false),
+            Edit::SymmetricDifferenceWith => (16, 0, 0, false),
+        };
+        [on, code, x as u64, y as u64, u64::from(z)]
+    }
+
+    pub fn reads_other(self) -> bool {
+        matches!(self, Edit::UnionWith | Edit::IntersectWith | Edit::DifferenceWith | Edit::SymmetricDifferenceWith)
+    }
+}
+
+/// The six walks; all but `Zeroes` have steps at both ends.
+#[derive(Clone, Copy, Debug, PartialEq, Eq)]
+pub enum Walk {
+    Ones,
+    Zeroes,
+    Intersection,
+    Difference,
+    Union,
+    SymmetricDifference,
+}
+
+impl Walk {
+    /// The walks of a history, in the order of their numbers.
+    pub const OF_HISTORIES: [Walk; 5] = [Walk::Ones, Walk::Intersection, Walk::Difference, Walk::Union, Walk::SymmetricDifference];
+
+    pub const ALL: [Walk; 6] = [Walk::Ones, Walk::Zeroes, Walk::Intersection, Walk::Difference, Walk::Union, Walk::SymmetricDifference];
+
+    /// Does the walk read a second set?
+    pub fn of_two_sets(self) -> bool {
+        !matches!(self, Walk::Ones | Walk::Zeroes)
+    }
+
+    pub fn of_two_parts(self) -> bool {
+        matches!(self, Walk::Union | Walk::SymmetricDifference)
+    }
+}
+
+/// The record of a part of a walk.
+#[derive(Clone, Copy, Debug, PartialEq, Eq)]
+pub struct Record {
+    pub low: usize,
+    pub high: usize,
+}
+
+impl Record {
+    pub const EMPTY: Record = Record { low: 0, high: 0 };
+}
+
+/// A call with its numbers. The first set is `a` of the case, the second `b`.
+#[derive(Clone, Copy, Debug, PartialEq, Eq)]
+pub enum Call {
+    Edit(Edit),
+    WithCapacity(usize),
+    /// The blocks are the words of `b`.
+    WithCapacityAndBlocks(usize),
+    Len,
+    IsEmpty,
+    AsSlice,
+    Contains(usize),
+    ContainsAllInRange(usize, usize),
+    ContainsAnyInRange(usize, usize),
+    IsFull,
+    IsClear,
+    CountOnes(usize, usize),
+    CountZeroes(usize, usize),
+    Minimum,
+    Maximum,
+    BitAnd,
+    BitOr,
+    BitXor,
+    UnionCount,
+    IntersectionCount,
+    DifferenceCount,
+    SymmetricDifferenceCount,
+    IsDisjoint,
+    IsSubset,
+    IsSuperset,
+    Eq,
+    Cmp,
+    Longer,
+    FirstPart,
+    Step { walk: Walk, back: bool, one: Record, two: Record },
+    /// A step of the walker that keeps the set's words.
+    WalkerStep { back: bool, part: Record },
+    WordCountOnes(u64),
+    WordLeadingZeros(u64),
+    WordTrailingZeros(u64),
+    LastPositiveBitAndUnset(u64),
+    LowMask(usize),
+    AskRange { start: usize, end: usize, length: usize },
+    RangeMask { start: usize, end: usize, word: usize },
+    Masks { start: usize, end: usize },
+}
+
+impl Call {
+    pub fn reads_second(self) -> bool {
+        match self {
+            Call::Edit(edit) => edit.reads_other(),
+            Call::Step { walk, .. } => walk.of_two_sets(),
+            Call::BitAnd | Call::BitOr | Call::BitXor => true,
+            Call::UnionCount | Call::IntersectionCount | Call::DifferenceCount | Call::SymmetricDifferenceCount => true,
+            Call::IsDisjoint | Call::IsSubset | Call::IsSuperset | Call::Eq | Call::Cmp | Call::Longer => true,
+            _ => false,
+        }
+    }
+}
+
+/// A call with the sets and buffers that are lent for it. `out` is the third buffer.
+#[derive(Clone, Debug, PartialEq, Eq)]
+pub struct Case {
+    pub call: Call,
+    pub a: Lent,
+    pub b: Lent,
+    pub out: Vec<u64>,
+}
+
+#[derive(Clone, Copy, Debug, PartialEq, Eq)]
+pub enum Answer {
+    /// An edit: the length after it.
+    Length(usize),
+    Put { length: usize, was: bool },
+    Yes(bool),
+    Count(usize),
+    /// 0 equal, 1 below, 2 above.
+    Order(u64),
+    Found(Option<usize>),
+    /// A part of the first slice or of the second. An empty part is of neither.
+    Part { second: bool, offset: usize, count: usize },
+    Record(Record),
+    Stepped { found: Option<usize>, one: Record, two: Record },
+    LastBit { position: usize, rest: u64 },
+    Masks { first_block: usize, end_block: usize, first_mask: u64, last_mask: u64 },
+    Word(u64),
+}
+
+impl Answer {
+    pub const EMPTY_PART: Answer = Answer::Part { second: false, offset: 0, count: 0 };
+
+    pub fn part(second: bool, offset: usize, count: usize) -> Answer {
+        if count == 0 {
+            Answer::EMPTY_PART
+        } else {
+            Answer::Part { second, offset, count }
+        }
+    }
+}
+
+/// The number, 0 for an accepted call, and the answer. The buffers after the call are in the case.
+#[derive(Clone, Copy, Debug, PartialEq, Eq)]
+pub struct Outcome {
+    pub number: u64,
+    pub answer: Answer,
+}
+
+/// A walk from its first records on; `back` says of each step at which end it is.
+#[derive(Clone, Debug, PartialEq, Eq)]
+pub struct WalkCase {
+    pub walk: Walk,
+    pub a: Lent,
+    pub b: Lent,
+    pub back: Vec<bool>,
+}
+
+/// The position of each step, and the records after the last; the reference has no records.
+#[derive(Clone, Debug, PartialEq, Eq)]
+pub struct Walked {
+    pub number: u64,
+    pub answers: Vec<Option<usize>>,
+    pub records: Option<(Record, Record)>,
+}
+
+/// A whole history: two fresh sets, calls of five numbers each, a walk by its number, steps, and a buffer for the answers.
+#[derive(Clone, Debug, PartialEq, Eq)]
+pub struct History {
+    pub a_bits: usize,
+    pub a_words: Vec<u64>,
+    pub b_bits: usize,
+    pub b_words: Vec<u64>,
+    pub calls: Vec<u64>,
+    pub walk: u64,
+    pub steps: Vec<u64>,
+    pub out: Vec<u64>,
+}
+
+/// The buffers after the history are in the history itself.
+#[derive(Clone, Copy, Debug, PartialEq, Eq)]
+pub struct Ran {
+    pub number: u64,
+    pub a_length: usize,
+    pub b_length: usize,
+    pub count: usize,
+}
+
+/// An answer of none in the buffer of a history.
+pub const NONE: u64 = u64::MAX;
+
+/// Something that answers calls, walks and histories. None where the input is outside what it can be asked.
+pub trait Engine {
+    fn name(&self) -> &'static str;
+    /// Makes the call on the buffers of the case.
+    fn call(&self, case: &mut Case) -> Option<Outcome>;
+    fn walk(&self, case: &WalkCase) -> Option<Walked>;
+    /// Runs the history on its buffers.
+    fn history(&self, history: &mut History) -> Option<Ran>;
+}

@@ -1,0 +1,113 @@
+//! Sets at the edges of words, up to the longest.
+
+use crate::cases::{Call, Case, Edit, Lent, Record, Walk, WalkCase};
+use crate::inputs::{at_position, one, over_range, random_set, set, to_length, words_of, CALLERS, MOST, OF_TWO, PLAIN};
+use crate::judge::{Difference, Judge};
+use crate::prng::Prng;
+
+/// `every` word's edge that is looked at: 1 for all of them.
+pub fn run(judge: &mut Judge, random: &mut Prng, every: usize) -> Result<(), Difference> {
+    for n in [0, 1, 2, 63, 64, 65, 127, 128, 129, 191, 192, 193, 4_095, 4_096, 4_097, 65_471, 65_472, 65_473, 65_534, 65_535, 65_536] {
+        around(judge, random, n)?;
+    }
+    for edge in (64..=MOST).step_by(64 * every) {
+        for n in [edge - 1, edge, edge + 1] {
+            if n <= MOST {
+                around(judge, random, n)?;
+            }
+        }
+    }
+    words(judge, random)
+}
+
+/// A set of n bits: at its end, at the word's edge below it, and beside sets a little shorter and longer.
+fn around(judge: &mut Judge, random: &mut Prng, n: usize) -> Result<(), Difference> {
+    let further = random.below(2);
+    let full = set(n, further, |_| true);
+    let ends = set(n, further, |p| p == 0 || p + 1 == n);
+    let mixed = random_set(random, n, further);
+    let edge = n.saturating_sub(1) / 64 * 64;
+    for call in PLAIN {
+        judge.check(&one(call, ends.clone()))?;
+        judge.check(&one(call, full.clone()))?;
+    }
+    for p in [0, edge.saturating_sub(1), edge, n.saturating_sub(1), n] {
+        let call = at_position(p)[random.below(7)];
+        judge.check(&one(call, mixed.clone()))?;
+        judge.check(&one(Call::Edit(Edit::CopyBit(n.saturating_sub(1), p)), ends.clone()))?;
+    }
+    for (start, end) in [(0, n), (edge, n), (0, edge), (n, n), (n.saturating_sub(1), n), (edge.saturating_sub(1), edge + 1), (n, n + 1), (n + 1, n)] {
+        let calls = over_range(start, end);
+        for call in [calls[random.below(5)], calls[5 + random.below(4)]] {
+            judge.check(&one(call, mixed.clone()))?;
+        }
+    }
+    for longer in [n, n + 1, n + 64, edge + 64, edge + 65, MOST, MOST + 1] {
+        let call = to_length(longer)[random.below(4)];
+        let blocks = random_set(random, n, 0);
+        let mut case = one(call, set(n, 1 + random.below(2), |p| p % 3 == 0));
+        case.b = blocks;
+        judge.check(&case)?;
+    }
+    beside(judge, random, n, &mixed, &ends)?;
+    last_steps(judge, random, n, &mixed, &ends)
+}
+
+fn beside(judge: &mut Judge, random: &mut Prng, n: usize, mixed: &Lent, ends: &Lent) -> Result<(), Difference> {
+    let other = [n.saturating_sub(1), n, n + 1, n.saturating_sub(64), n + 64, 1][random.below(6)].min(MOST);
+    let second = random_set(random, other, 0);
+    let room = words_of(n.max(other));
+    for _ in 0..4 {
+        let call = OF_TWO[random.below(OF_TWO.len())];
+        let mut a = if random.yes() { mixed.clone() } else { ends.clone() };
+        a.words.resize((room + random.below(2)).max(words_of(n)), CALLERS);
+        judge.check(&Case { call, a, b: second.clone(), out: vec![CALLERS; room + random.below(2)] })?;
+    }
+    // The same set a second time, so that equality and subset say yes.
+    let call = [Call::Eq, Call::Cmp, Call::IsSubset, Call::IsSuperset, Call::Longer][random.below(5)];
+    judge.check(&Case { call, a: mixed.clone(), b: mixed.clone(), out: Vec::new() })
+}
+
+/// Some steps at both ends, and steps with a record that stands at the end.
+fn last_steps(judge: &mut Judge, random: &mut Prng, n: usize, mixed: &Lent, ends: &Lent) -> Result<(), Difference> {
+    let walk = Walk::OF_HISTORIES[random.below(5)];
+    let back: Vec<bool> = (0..6).map(|_| random.yes()).collect();
+    judge.check(&WalkCase { walk, a: mixed.clone(), b: ends.clone(), back: back.clone() })?;
+    judge.check(&WalkCase { walk: Walk::Ones, a: ends.clone(), b: mixed.clone(), back })?;
+    judge.check(&WalkCase { walk: Walk::Zeroes, a: ends.clone(), b: mixed.clone(), back: vec![false; 4] })?;
+    for part in [Record { low: n.saturating_sub(1), high: n }, Record { low: n, high: n }, Record { low: 0, high: n + 1 }, Record { low: n + 1, high: n }] {
+        let two = Record { low: 0, high: n };
+        let call = Call::Step { walk, back: random.yes(), one: part, two };
+        judge.check(&Case { call, a: ends.clone(), b: mixed.clone(), out: Vec::new() })?;
+    }
+    Ok(())
+}
+
+/// One word and the masks of ranges.
+fn words(judge: &mut Judge, random: &mut Prng) -> Result<(), Difference> {
+    let none = Lent { length: 0, words: Vec::new() };
+    let mut plain: Vec<u64> = vec![0, 1, 2, 12, u64::MAX, u64::MAX - 1, 1 << 63];
+    plain.extend((0..64).flat_map(|j| [1 << j, u64::MAX << j, u64::MAX >> j]));
+    plain.extend((0..2_000).map(|_| random.word() >> (random.word() % 64)));
+    for word in plain {
+        let calls = [Call::WordCountOnes(word), Call::WordLeadingZeros(word), Call::WordTrailingZeros(word), Call::LastPositiveBitAndUnset(word)];
+        for call in calls {
+            judge.check(&one(call, none.clone()))?;
+        }
+    }
+    for r in (0..=70).chain([usize::MAX]) {
+        judge.check(&one(Call::LowMask(r), none.clone()))?;
+    }
+    let ends: Vec<usize> = vec![0, 1, 62, 63, 64, 65, 100, 127, 128, 129, 192, 65_535, 65_536, usize::MAX - 64, usize::MAX - 63, usize::MAX - 1, usize::MAX];
+    for start in &ends {
+        for end in &ends {
+            let (start, end) = (*start, *end);
+            judge.check(&one(Call::Masks { start, end }, none.clone()))?;
+            for number in [0, 1, 2, 3, 1_022, 1_023, 1_024, usize::MAX / 64 - 1, usize::MAX / 64, usize::MAX / 64 + 1, usize::MAX] {
+                judge.check(&one(Call::RangeMask { start, end, word: number }, none.clone()))?;
+                judge.check(&one(Call::AskRange { start, end, length: number }, none.clone()))?;
+            }
+        }
+    }
+    Ok(())
+}

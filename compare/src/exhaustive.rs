@@ -1,0 +1,169 @@
+//! Every set of 0 to 6 bits, at every position and range, every pair of such sets, every mix of steps, and every short history.
+
+use crate::cases::{Call, Case, Edit, History, Lent, Record, Walk, WalkCase};
+use crate::inputs::{at_position, one, over_range, set, to_length, CALLERS, OF_TWO, PLAIN};
+use crate::judge::{Difference, Judge};
+
+const LONGEST: usize = 6;
+
+/// How far the larger families go.
+pub struct Depth {
+    /// Pairs of sets up to this length are walked by every mix of steps.
+    pub mixed: usize,
+    /// Every n-th history of two calls is run.
+    pub every: usize,
+}
+
+pub fn run(judge: &mut Judge, depth: &Depth) -> Result<(), Difference> {
+    let sets = sets(LONGEST);
+    for set in &sets {
+        single(judge, set)?;
+        records(judge, set)?;
+        ones(judge, set)?;
+    }
+    for a in &sets {
+        for b in &sets {
+            pair(judge, a, b)?;
+            walks(judge, a, b, a.length.max(b.length) <= depth.mixed)?;
+        }
+    }
+    histories(judge, depth.every)
+}
+
+/// Every set of 0 to `longest` bits, with no word after it.
+fn sets(longest: usize) -> Vec<Lent> {
+    (0..=longest).flat_map(|length| (0..1usize << length).map(move |bits| set(length, 0, |p| bits >> p & 1 == 1))).collect()
+}
+
+/// The set with words of the caller up to `size`.
+fn lent(set: &Lent, size: usize) -> Lent {
+    let mut words = set.words.clone();
+    words.resize(size, CALLERS);
+    Lent { length: set.length, words }
+}
+
+fn single(judge: &mut Judge, set: &Lent) -> Result<(), Difference> {
+    let length = set.length;
+    let positions: Vec<usize> = (0..=length + 1).chain([63, 64, usize::MAX]).collect();
+    for size in [set.words.len(), 2] {
+        let mut check = |call: Call| judge.check(&one(call, lent(set, size)));
+        PLAIN.into_iter().try_for_each(&mut check)?;
+        for x in &positions {
+            at_position(*x).into_iter().try_for_each(&mut check)?;
+            for y in &positions {
+                check(Call::Edit(Edit::CopyBit(*x, *y)))?;
+                over_range(*x, *y).into_iter().try_for_each(&mut check)?;
+            }
+        }
+        for n in positions.iter().copied().chain([65, 127, 128, 129, 65_535, 65_536, 65_537]) {
+            to_length(n).into_iter().try_for_each(&mut check)?;
+        }
+    }
+    Ok(())
+}
+
+/// Steps with every record, right and wrong.
+fn records(judge: &mut Judge, set: &Lent) -> Result<(), Difference> {
+    let ends: Vec<usize> = (0..=set.length + 1).chain([64, usize::MAX]).collect();
+    for low in &ends {
+        for high in &ends {
+            let part = Record { low: *low, high: *high };
+            let step = |walk, back| Call::Step { walk, back, one: part, two: Record::EMPTY };
+            let steps = [step(Walk::Ones, false), step(Walk::Ones, true), step(Walk::Zeroes, false)];
+            let walker = [false, true].map(|back| Call::WalkerStep { back, part });
+            for call in steps.into_iter().chain(walker) {
+                judge.check(&one(call, lent(set, 2)))?;
+            }
+        }
+    }
+    Ok(())
+}
+
+/// Every mix of n steps, as the bits of a number.
+fn mix(bits: usize, n: usize) -> Vec<bool> {
+    (0..n).map(|k| bits >> k & 1 == 1).collect()
+}
+
+/// Every mix of steps of `ones`, to one step past its end, and all of `zeroes`.
+fn ones(judge: &mut Judge, set: &Lent) -> Result<(), Difference> {
+    let n = set.words.iter().map(|word| word.count_ones() as usize).sum::<usize>() + 2;
+    let empty = Lent { length: 0, words: Vec::new() };
+    for bits in 0..1 << n {
+        judge.check(&WalkCase { walk: Walk::Ones, a: lent(set, 2), b: empty.clone(), back: mix(bits, n) })?;
+    }
+    judge.check(&WalkCase { walk: Walk::Zeroes, a: lent(set, 2), b: empty, back: vec![false; set.length + 2] })
+}
+
+fn pair(judge: &mut Judge, a: &Lent, b: &Lent) -> Result<(), Difference> {
+    for call in OF_TWO {
+        judge.check(&Case { call, a: lent(a, 2), b: lent(b, 1), out: vec![CALLERS; 2] })?;
+    }
+    // The same with no word to spare, where the lengths may need one.
+    for call in [Call::Edit(Edit::UnionWith), Call::Edit(Edit::SymmetricDifferenceWith), Call::BitAnd, Call::BitOr, Call::BitXor] {
+        judge.check(&Case { call, a: a.clone(), b: b.clone(), out: Vec::new() })?;
+    }
+    Ok(())
+}
+
+fn walks(judge: &mut Judge, a: &Lent, b: &Lent, mixed: bool) -> Result<(), Difference> {
+    let bits = |set: &Lent| set.words.first().copied().unwrap_or(0);
+    let (x, y) = (bits(a), bits(b));
+    for (walk, size) in [(Walk::Intersection, x & y), (Walk::Difference, x & !y), (Walk::Union, x | y), (Walk::SymmetricDifference, x ^ y)] {
+        let n = size.count_ones() as usize + 1;
+        let mixes: Vec<usize> = if mixed { (0..1 << n).collect() } else { vec![0, (1 << n) - 1, 0x5555, 0xAAAA, 0x6666, 0x1111] };
+        for bits in mixes {
+            judge.check(&WalkCase { walk, a: lent(a, 2), b: lent(b, 1), back: mix(bits, n) })?;
+        }
+    }
+    Ok(())
+}
+
+/// Histories of one and two calls on sets of 0 to 2 bits, with every walk in turn.
+fn histories(judge: &mut Judge, every: usize) -> Result<(), Difference> {
+    let calls = small_calls();
+    let mut made = 0;
+    for a_bits in 0..=2 {
+        for b_bits in 0..=2 {
+            for first in &calls {
+                judge.check_history(&history(a_bits, b_bits, &[*first], made))?;
+                made += 1;
+                for second in &calls {
+                    made += 1;
+                    if made % every == 0 {
+                        judge.check_history(&history(a_bits, b_bits, &[*first, *second], made / every))?;
+                    }
+                }
+            }
+        }
+    }
+    Ok(())
+}
+
+fn history(a_bits: usize, b_bits: usize, calls: &[[u64; 5]], made: usize) -> History {
+    let steps: Vec<u64> = (0..6).map(|k| (made as u64 / 5) >> k & 1).collect();
+    History {
+        a_bits,
+        a_words: vec![CALLERS; 2],
+        b_bits,
+        b_words: vec![CALLERS; 1 + made % 2],
+        calls: calls.concat(),
+        walk: (made % 5) as u64,
+        steps,
+        out: vec![CALLERS; 7],
+    }
+}
+
+/// Every call with positions 0 to 2, on both sets.
+fn small_calls() -> Vec<[u64; 5]> {
+    let mut edits = vec![Edit::Clear, Edit::UnionWith, Edit::IntersectWith, Edit::DifferenceWith, Edit::SymmetricDifferenceWith];
+    for x in 0..=2 {
+        edits.extend([Edit::Insert(x), Edit::Remove(x), Edit::Put(x), Edit::Toggle(x), Edit::Set(x, true), Edit::Set(x, false)]);
+        edits.extend([Edit::Grow(x + 1), Edit::GrowAndInsert(x)]);
+        for y in 0..=2 {
+            edits.push(Edit::CopyBit(x, y));
+            edits.extend([Edit::InsertRange(x, y), Edit::RemoveRange(x, y), Edit::ToggleRange(x, y), Edit::SetRange(x, y, true)]);
+        }
+    }
+    edits.extend([Edit::GrowAndInsert(64), Edit::Grow(65), Edit::Grow(129), Edit::GrowAndInsert(65_536)]);
+    edits.iter().flat_map(|edit| [edit.encode(0), edit.encode(1)]).collect()
+}

@@ -1,0 +1,230 @@
+//! Asks every engine the same and holds their answers against each other.
+
+use crate::cases::{Case, Engine, History, Outcome, Ran, WalkCase, Walked};
+use crate::shrink;
+use crate::show;
+
+/// Something that engines can be asked.
+pub trait Input: Clone {
+    type Seen: Seen;
+    /// None where it is outside what the engine can be asked.
+    fn ask(&self, engine: &dyn Engine) -> Option<Self::Seen>;
+    /// How many answers it has.
+    fn answers(&self) -> u64;
+    /// Inputs that are a little smaller: shorter lengths first.
+    fn smaller(&self) -> Vec<Self>;
+    fn show(&self) -> String;
+}
+
+/// All that can be seen of an answer: its numbers, and every lent word after it.
+pub trait Seen {
+    fn agrees(&self, other: &Self) -> bool;
+    fn show(&self) -> String;
+}
+
+#[derive(PartialEq, Eq)]
+pub struct SeenCase {
+    pub outcome: Outcome,
+    pub buffers: [Vec<u64>; 3],
+}
+
+impl Seen for SeenCase {
+    fn agrees(&self, other: &Self) -> bool {
+        self == other
+    }
+
+    fn show(&self) -> String {
+        let [a, b, out] = &self.buffers;
+        format!("{:?}; words {}; other {}; out {}", self.outcome, show::words(a), show::words(b), show::words(out))
+    }
+}
+
+impl Input for Case {
+    type Seen = SeenCase;
+
+    fn ask(&self, engine: &dyn Engine) -> Option<SeenCase> {
+        let mut case = self.clone();
+        let outcome = engine.call(&mut case)?;
+        Some(SeenCase { outcome, buffers: [case.a.words, case.b.words, case.out] })
+    }
+
+    fn answers(&self) -> u64 {
+        1
+    }
+
+    fn smaller(&self) -> Vec<Self> {
+        shrink::case(self)
+    }
+
+    fn show(&self) -> String {
+        show::case(self)
+    }
+}
+
+impl Seen for Walked {
+    fn agrees(&self, other: &Self) -> bool {
+        let records = self.records.is_none() || other.records.is_none() || self.records == other.records;
+        self.number == other.number && self.answers == other.answers && records
+    }
+
+    fn show(&self) -> String {
+        format!("number {}; answers {}; records {:?}", self.number, show::answers(&self.answers), self.records)
+    }
+}
+
+impl Input for WalkCase {
+    type Seen = Walked;
+
+    fn ask(&self, engine: &dyn Engine) -> Option<Walked> {
+        engine.walk(self)
+    }
+
+    fn answers(&self) -> u64 {
+        self.back.len() as u64
+    }
+
+    fn smaller(&self) -> Vec<Self> {
+        shrink::walk(self)
+    }
+
+    fn show(&self) -> String {
+        show::walk(self)
+    }
+}
+
+#[derive(PartialEq, Eq)]
+pub struct SeenHistory {
+    pub ran: Ran,
+    pub buffers: [Vec<u64>; 3],
+}
+
+impl Seen for SeenHistory {
+    fn agrees(&self, other: &Self) -> bool {
+        self == other
+    }
+
+    fn show(&self) -> String {
+        let [a, b, out] = &self.buffers;
+        format!("{:?}; words {}; other {}; answers {}", self.ran, show::words(a), show::words(b), show::numbers(out))
+    }
+}
+
+impl Input for History {
+    type Seen = SeenHistory;
+
+    fn ask(&self, engine: &dyn Engine) -> Option<SeenHistory> {
+        let mut history = self.clone();
+        let ran = engine.history(&mut history)?;
+        Some(SeenHistory { ran, buffers: [history.a_words, history.b_words, history.out] })
+    }
+
+    /// Each step, the count, and the two sets.
+    fn answers(&self) -> u64 {
+        self.steps.len() as u64 + 3
+    }
+
+    fn smaller(&self) -> Vec<Self> {
+        shrink::history(self)
+    }
+
+    fn show(&self) -> String {
+        show::history(self)
+    }
+}
+
+/// How much was compared.
+#[derive(Default, Clone)]
+pub struct Tally {
+    /// Answers that at least two engines gave.
+    pub answers: u64,
+    pub histories: u64,
+    /// By pair of engines, in the order of `Judge::pairs`.
+    pub of_pairs: [u64; 3],
+}
+
+/// The two engines' answers to the smallest input found.
+pub struct Difference(pub String);
+
+pub struct Judge {
+    engines: Vec<Box<dyn Engine>>,
+    pub tally: Tally,
+}
+
+const PAIRS: [(usize, usize); 3] = [(0, 1), (0, 2), (1, 2)];
+
+impl Judge {
+    pub fn new(engines: Vec<Box<dyn Engine>>) -> Self {
+        Judge { engines, tally: Tally::default() }
+    }
+
+    /// The names of each pair of engines, and how many answers they were compared on.
+    pub fn pairs(&self) -> Vec<(String, u64)> {
+        let named = |(i, j): (usize, usize)| Some(format!("{} with {}", self.engines.get(i)?.name(), self.engines.get(j)?.name()));
+        PAIRS.iter().zip(self.tally.of_pairs).filter_map(|(pair, n)| Some((named(*pair)?, n))).collect()
+    }
+
+    fn ask<I: Input>(&self, input: &I) -> Vec<Option<I::Seen>> {
+        self.engines.iter().map(|engine| input.ask(engine.as_ref())).collect()
+    }
+
+    /// What the first two that differ answered.
+    fn differing<I: Input>(&self, input: &I) -> Option<String> {
+        let seen = self.ask(input);
+        for (i, j) in PAIRS {
+            if let (Some(Some(x)), Some(Some(y))) = (seen.get(i), seen.get(j)) {
+                if !x.agrees(y) {
+                    let (one, two) = (self.engines[i].name(), self.engines[j].name());
+                    return Some(format!("  {one}: {}\n  {two}: {}", x.show(), y.show()));
+                }
+            }
+        }
+        None
+    }
+
+    /// Compares all engines on one input; a difference comes back with the smallest input found.
+    pub fn check<I: Input>(&mut self, input: &I) -> Result<(), Difference> {
+        let seen = self.ask(input);
+        let answers = input.answers();
+        let mut compared = false;
+        for (k, (i, j)) in PAIRS.into_iter().enumerate() {
+            if let (Some(Some(x)), Some(Some(y))) = (seen.get(i), seen.get(j)) {
+                if !x.agrees(y) {
+                    return Err(self.reduced(input));
+                }
+                self.tally.of_pairs[k] += answers;
+                compared = true;
+            }
+        }
+        if compared {
+            self.tally.answers += answers;
+        }
+        Ok(())
+    }
+
+    pub fn check_history(&mut self, history: &History) -> Result<(), Difference> {
+        self.check(history)?;
+        self.tally.histories += 1;
+        Ok(())
+    }
+
+    /// Takes the first smaller input that still differs, until none does.
+    fn reduced<I: Input>(&self, input: &I) -> Difference {
+        const TRIES: usize = 50_000;
+        let mut least = input.clone();
+        let mut tries = 0;
+        'again: loop {
+            for candidate in least.smaller() {
+                tries += 1;
+                if tries > TRIES {
+                    break 'again;
+                }
+                if self.differing(&candidate).is_some() {
+                    least = candidate;
+                    continue 'again;
+                }
+            }
+            break;
+        }
+        Difference(format!("{}\n{}", least.show(), self.differing(&least).unwrap_or_default()))
+    }
+}

@@ -1,0 +1,98 @@
+//! Holds three engines against each other: the engine's archive, the Rust reference, and a model of document 01.
+//!
+//! `compare [--quick | --full] [--seed N]`, `compare --sample FILE`, `compare --bench`. A difference is printed with the smallest input found, and the status is 1.
+
+#[cfg(feature = "archive")]
+mod archive;
+mod cases;
+mod edges;
+mod exhaustive;
+mod histories;
+mod inputs;
+mod judge;
+mod model;
+mod prng;
+mod random;
+mod reference;
+mod show;
+mod shrink;
+
+use judge::{Difference, Judge};
+use prng::Prng;
+use std::process::exit;
+use std::time::Instant;
+
+/// How much a run does.
+struct Extent {
+    depth: exhaustive::Depth,
+    edges_every: usize,
+    answers: u64,
+    histories: u64,
+}
+
+const QUICK: Extent = Extent { depth: exhaustive::Depth { mixed: 3, every: 97 }, edges_every: 61, answers: 600_000, histories: 10_000 };
+const FULL: Extent = Extent { depth: exhaustive::Depth { mixed: 4, every: 3 }, edges_every: 1, answers: 8_000_000, histories: 100_000 };
+
+const DEFAULT_SEED: u64 = 1;
+
+fn main() {
+    reference::silence_panics();
+    let words: Vec<String> = std::env::args().skip(1).collect();
+    let words: Vec<&str> = words.iter().map(String::as_str).collect();
+    match words.as_slice() {
+        [] | ["--quick"] => run(&QUICK, DEFAULT_SEED),
+        ["--full"] => run(&FULL, DEFAULT_SEED),
+        ["--seed", seed] | ["--quick", "--seed", seed] => run(&QUICK, seed_of(seed)),
+        ["--full", "--seed", seed] => run(&FULL, seed_of(seed)),
+        _ => usage(),
+    }
+}
+
+fn usage() -> ! {
+    eprintln!("usage: compare [--quick | --full] [--seed N] | --sample FILE | --bench");
+    exit(2)
+}
+
+fn seed_of(word: &str) -> u64 {
+    word.parse().unwrap_or_else(|_| usage())
+}
+
+fn engines() -> Vec<Box<dyn cases::Engine>> {
+    vec![
+        #[cfg(feature = "archive")]
+        Box::new(archive::Archive),
+        Box::new(reference::Reference),
+        Box::new(model::Model),
+    ]
+}
+
+fn run(extent: &Extent, seed: u64) {
+    let start = Instant::now();
+    let mut judge = Judge::new(engines());
+    let result = stages(&mut judge, extent, seed, start);
+    for (pair, answers) in judge.pairs() {
+        println!("{pair}: {answers} answers");
+    }
+    println!("{} answers and {} histories compared, seed {seed}, {:.1} s", judge.tally.answers, judge.tally.histories, start.elapsed().as_secs_f64());
+    if let Err(Difference(text)) = result {
+        println!("a difference, the smallest input found:\n{text}");
+        exit(1);
+    }
+    println!("no difference");
+}
+
+fn stages(judge: &mut Judge, extent: &Extent, seed: u64, start: Instant) -> Result<(), Difference> {
+    let mut random = Prng::new(seed);
+    let done = |judge: &Judge, name: &str| {
+        println!("{name}: {} answers, {} histories so far, {:.1} s", judge.tally.answers, judge.tally.histories, start.elapsed().as_secs_f64());
+    };
+    exhaustive::run(judge, &extent.depth)?;
+    done(judge, "exhaustive, 0 to 6 bits");
+    edges::run(judge, &mut random, extent.edges_every)?;
+    done(judge, "edges of words");
+    random::run(judge, &mut random, extent.answers)?;
+    done(judge, "random calls and walks");
+    histories::run(judge, &mut random, extent.histories)?;
+    done(judge, "random histories");
+    Ok(())
+}

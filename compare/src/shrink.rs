@@ -1,0 +1,187 @@
+//! Smaller inputs, for the smallest that still shows a difference: shorter lengths first, then fewer calls and steps, then simpler words and numbers.
+
+use crate::cases::{Call, Case, Edit, History, Lent, Record, WalkCase};
+
+/// Numbers below n, the boldest first.
+fn below(n: usize) -> Vec<usize> {
+    let mut smaller = Vec::new();
+    for candidate in [0, n / 2, n.saturating_sub(64), n.saturating_sub(1)] {
+        if candidate < n && !smaller.contains(&candidate) {
+            smaller.push(candidate);
+        }
+    }
+    smaller
+}
+
+/// Lists with a part left out, the largest parts first.
+fn shorter<T: Clone>(list: &[T], unit: usize) -> Vec<Vec<T>> {
+    let mut smaller = Vec::new();
+    let mut size = list.len().div_ceil(unit);
+    while size > 0 {
+        for start in (0..list.len()).step_by(size * unit) {
+            let mut rest = list[..start].to_vec();
+            rest.extend_from_slice(&list[(start + size * unit).min(list.len())..]);
+            smaller.push(rest);
+        }
+        size /= 2;
+    }
+    smaller
+}
+
+/// Words with fewer of them, then with a word of 0, then with a bit less.
+fn simpler_words(words: &[u64]) -> Vec<Vec<u64>> {
+    let mut smaller: Vec<Vec<u64>> = below(words.len()).into_iter().map(|n| words[..n].to_vec()).collect();
+    let changed = |k: usize, word: u64| {
+        let mut other = words.to_vec();
+        other[k] = word;
+        other
+    };
+    let kept: Vec<usize> = (0..words.len()).filter(|k| words[*k] != 0).take(40).collect();
+    for k in &kept {
+        smaller.push(changed(*k, 0));
+    }
+    for k in kept.into_iter().take(4) {
+        let word = words[k];
+        smaller.push(changed(k, word & 0xFFFF_FFFF));
+        smaller.push(changed(k, word & (word - 1)));
+        smaller.push(changed(k, word & !(1 << (63 - word.leading_zeros()))));
+    }
+    smaller
+}
+
+fn lents(set: &Lent) -> Vec<Lent> {
+    let mut smaller: Vec<Lent> = below(set.length).into_iter().map(|length| Lent { length, words: set.words.clone() }).collect();
+    // A shorter length with no stray bit.
+    for length in below(set.length) {
+        let mut words = set.words.clone();
+        if length % 64 != 0 && length / 64 < words.len() {
+            words[length / 64] &= (1 << (length % 64)) - 1;
+            smaller.push(Lent { length, words });
+        }
+    }
+    smaller.extend(simpler_words(&set.words).into_iter().map(|words| Lent { length: set.length, words }));
+    smaller
+}
+
+/// The call with each of its numbers replaced.
+fn with_numbers(call: Call, f: &mut dyn FnMut(usize) -> usize) -> Call {
+    match call {
+        Call::Edit(edit) => {
+            let [_, code, x, y, z] = edit.encode(0);
+            Call::Edit(Edit::decode(code, f(x as usize), f(y as usize), z != 0).unwrap_or(edit))
+        }
+        Call::WithCapacity(n) => Call::WithCapacity(f(n)),
+        Call::WithCapacityAndBlocks(n) => Call::WithCapacityAndBlocks(f(n)),
+        Call::Contains(p) => Call::Contains(f(p)),
+        Call::ContainsAllInRange(start, end) => Call::ContainsAllInRange(f(start), f(end)),
+        Call::ContainsAnyInRange(start, end) => Call::ContainsAnyInRange(f(start), f(end)),
+        Call::CountOnes(start, end) => Call::CountOnes(f(start), f(end)),
+        Call::CountZeroes(start, end) => Call::CountZeroes(f(start), f(end)),
+        Call::Step { walk, back, one, two } => Call::Step { walk, back, one: record(one, f), two: record(two, f) },
+        Call::WalkerStep { back, part } => Call::WalkerStep { back, part: record(part, f) },
+        Call::WordCountOnes(word) => Call::WordCountOnes(f(word as usize) as u64),
+        Call::WordLeadingZeros(word) => Call::WordLeadingZeros(f(word as usize) as u64),
+        Call::WordTrailingZeros(word) => Call::WordTrailingZeros(f(word as usize) as u64),
+        Call::LastPositiveBitAndUnset(word) => Call::LastPositiveBitAndUnset(f(word as usize) as u64),
+        Call::LowMask(r) => Call::LowMask(f(r)),
+        Call::AskRange { start, end, length } => Call::AskRange { start: f(start), end: f(end), length: f(length) },
+        Call::RangeMask { start, end, word } => Call::RangeMask { start: f(start), end: f(end), word: f(word) },
+        Call::Masks { start, end } => Call::Masks { start: f(start), end: f(end) },
+        call => call,
+    }
+}
+
+fn record(record: Record, f: &mut dyn FnMut(usize) -> usize) -> Record {
+    Record { low: f(record.low), high: f(record.high) }
+}
+
+/// The numbers of a call.
+fn numbers(call: Call) -> Vec<usize> {
+    let mut numbers = Vec::new();
+    with_numbers(call, &mut |n| {
+        numbers.push(n);
+        n
+    });
+    numbers
+}
+
+pub fn case(case: &Case) -> Vec<Case> {
+    let mut smaller = Vec::new();
+    for a in lents(&case.a) {
+        smaller.push(Case { a, ..case.clone() });
+    }
+    for b in lents(&case.b) {
+        smaller.push(Case { b, ..case.clone() });
+    }
+    for out in simpler_words(&case.out) {
+        smaller.push(Case { out, ..case.clone() });
+    }
+    for (place, number) in numbers(case.call).into_iter().enumerate() {
+        for less in below(number) {
+            let mut at = 0;
+            let call = with_numbers(case.call, &mut |n| {
+                at += 1;
+                if at == place + 1 {
+                    less
+                } else {
+                    n
+                }
+            });
+            smaller.push(Case { call, ..case.clone() });
+        }
+    }
+    smaller.retain(|candidate| candidate != case);
+    smaller
+}
+
+pub fn walk(case: &WalkCase) -> Vec<WalkCase> {
+    let mut smaller = Vec::new();
+    for a in lents(&case.a) {
+        smaller.push(WalkCase { a, ..case.clone() });
+    }
+    for b in lents(&case.b) {
+        smaller.push(WalkCase { b, ..case.clone() });
+    }
+    for back in shorter(&case.back, 1) {
+        if !back.is_empty() {
+            smaller.push(WalkCase { back, ..case.clone() });
+        }
+    }
+    smaller
+}
+
+pub fn history(history: &History) -> Vec<History> {
+    let mut smaller = Vec::new();
+    for a_bits in below(history.a_bits) {
+        smaller.push(History { a_bits, ..history.clone() });
+    }
+    for b_bits in below(history.b_bits) {
+        smaller.push(History { b_bits, ..history.clone() });
+    }
+    for calls in shorter(&history.calls, 5) {
+        smaller.push(History { calls, ..history.clone() });
+    }
+    for steps in shorter(&history.steps, 1) {
+        smaller.push(History { steps, ..history.clone() });
+    }
+    for a_words in simpler_words(&history.a_words) {
+        smaller.push(History { a_words, ..history.clone() });
+    }
+    for b_words in simpler_words(&history.b_words) {
+        smaller.push(History { b_words, ..history.clone() });
+    }
+    for out in simpler_words(&history.out) {
+        smaller.push(History { out, ..history.clone() });
+    }
+    for place in 0..history.calls.len() {
+        if place % 5 >= 2 {
+            for less in below(history.calls[place] as usize) {
+                let mut calls = history.calls.clone();
+                calls[place] = less as u64;
+                smaller.push(History { calls, ..history.clone() });
+            }
+        }
+    }
+    smaller.retain(|candidate| candidate != history);
+    smaller
+}
