@@ -25,6 +25,9 @@ pub fn run(judge: &mut Judge, depth: &Depth) -> Result<(), Difference> {
         for b in &sets {
             pair(judge, a, b)?;
             walks(judge, a, b, a.length.max(b.length) <= depth.mixed)?;
+            if a.length.max(b.length) <= 2 {
+                pair_records(judge, a, b)?;
+            }
         }
     }
     histories(judge, depth.every)
@@ -73,6 +76,25 @@ fn records(judge: &mut Judge, set: &Lent) -> Result<(), Difference> {
             let walker = [false, true].map(|back| Call::WalkerStep { back, part });
             for call in steps.into_iter().chain(walker) {
                 judge.check(&one(call, lent(set, 2)))?;
+            }
+        }
+    }
+    Ok(())
+}
+
+/// Steps of the walks of two sets with every record of each part, right and wrong.
+fn pair_records(judge: &mut Judge, a: &Lent, b: &Lent) -> Result<(), Difference> {
+    let records = |length: usize| {
+        let ends = move || 0..=length + 1;
+        ends().flat_map(move |low| ends().map(move |high| Record { low, high }))
+    };
+    for one in records(a.length) {
+        for two in records(b.length) {
+            for walk in Walk::ALL.into_iter().filter(|walk| walk.of_two_sets()) {
+                for back in [false, true] {
+                    let call = Call::Step { walk, back, one, two };
+                    judge.check(&Case { call, a: lent(a, 1), b: lent(b, 2), out: Vec::new() })?;
+                }
             }
         }
     }

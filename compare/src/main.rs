@@ -2,9 +2,15 @@
 //!
 //! `compare [--quick | --full] [--seed N]`, `compare --sample FILE`, `compare --bench`. A difference is printed with the smallest input found, and the status is 1.
 
+// Built by build.rs, so cargo does not name it.
+extern crate fixedbitset;
+
 #[cfg(feature = "archive")]
 mod archive;
+#[cfg(feature = "archive")]
+mod bench;
 mod cases;
+mod damaged;
 mod edges;
 mod exhaustive;
 mod histories;
@@ -14,6 +20,7 @@ mod model;
 mod prng;
 mod random;
 mod reference;
+mod sample;
 mod show;
 mod shrink;
 
@@ -30,8 +37,8 @@ struct Extent {
     histories: u64,
 }
 
-const QUICK: Extent = Extent { depth: exhaustive::Depth { mixed: 3, every: 97 }, edges_every: 61, answers: 600_000, histories: 10_000 };
-const FULL: Extent = Extent { depth: exhaustive::Depth { mixed: 4, every: 3 }, edges_every: 1, answers: 8_000_000, histories: 100_000 };
+const QUICK: Extent = Extent { depth: exhaustive::Depth { mixed: 4, every: 11 }, edges_every: 13, answers: 3_000_000, histories: 50_000 };
+const FULL: Extent = Extent { depth: exhaustive::Depth { mixed: 5, every: 1 }, edges_every: 1, answers: 60_000_000, histories: 1_000_000 };
 
 const DEFAULT_SEED: u64 = 1;
 
@@ -44,6 +51,11 @@ fn main() {
         ["--full"] => run(&FULL, DEFAULT_SEED),
         ["--seed", seed] | ["--quick", "--seed", seed] => run(&QUICK, seed_of(seed)),
         ["--full", "--seed", seed] => run(&FULL, seed_of(seed)),
+        ["--sample", file] => write_sample(file),
+        #[cfg(feature = "archive")]
+        ["--bench"] => bench::run(DEFAULT_SEED),
+        #[cfg(feature = "archive")]
+        ["--bench", "--seed", seed] => bench::run(seed_of(seed)),
         _ => usage(),
     }
 }
@@ -55,6 +67,23 @@ fn usage() -> ! {
 
 fn seed_of(word: &str) -> u64 {
     word.parse().unwrap_or_else(|_| usage())
+}
+
+fn write_sample(file: &str) {
+    let mut judge = Judge::new(engines());
+    match sample::text(&mut judge) {
+        Err(Difference(text)) => {
+            println!("a difference, the smallest input found:\n{text}");
+            exit(1);
+        }
+        Ok(text) => {
+            if let Err(error) = std::fs::write(file, &text) {
+                eprintln!("{file}: {error}");
+                exit(1);
+            }
+            println!("{file}: {} histories, {} answers, {} bytes", judge.tally.histories, judge.tally.answers, text.len());
+        }
+    }
 }
 
 fn engines() -> Vec<Box<dyn cases::Engine>> {
@@ -88,6 +117,8 @@ fn stages(judge: &mut Judge, extent: &Extent, seed: u64, start: Instant) -> Resu
     };
     exhaustive::run(judge, &extent.depth)?;
     done(judge, "exhaustive, 0 to 6 bits");
+    damaged::run(judge)?;
+    done(judge, "damaged inputs");
     edges::run(judge, &mut random, extent.edges_every)?;
     done(judge, "edges of words");
     random::run(judge, &mut random, extent.answers)?;

@@ -3,7 +3,6 @@
 //! It can be asked what it has a meaning for: sets that pass questions 1 to 3, new lengths that pass 6 and 7, walks from their start.
 
 use crate::cases::{Answer, Call, Case, Edit, Engine, History, Lent, Outcome, Ran, Walk, WalkCase, Walked, NONE};
-extern crate fixedbitset;
 use fixedbitset::{FixedBitSet, Ones};
 use std::cell::Cell;
 use std::cmp::Ordering;
