@@ -5,67 +5,86 @@ use crate::inputs::{at_position, one, over_range, random_set, set, to_length, wo
 use crate::judge::{Difference, Judge};
 use crate::prng::Prng;
 
-/// `every` word's edge that is looked at: 1 for all of them.
+/// Every call at the ends that matter most, then some calls at `every` word's edge: 1 for all of them.
 pub fn run(judge: &mut Judge, random: &mut Prng, every: usize) -> Result<(), Difference> {
     for n in [0, 1, 2, 63, 64, 65, 127, 128, 129, 191, 192, 193, 4_095, 4_096, 4_097, 65_471, 65_472, 65_473, 65_534, 65_535, 65_536] {
-        around(judge, random, n)?;
+        around(judge, random, n, true)?;
     }
     for edge in (64..=MOST).step_by(64 * every) {
         for n in [edge - 1, edge, edge + 1] {
             if n <= MOST {
-                around(judge, random, n)?;
+                around(judge, random, n, false)?;
             }
         }
     }
     words(judge, random)
 }
 
+/// All the calls, or some of them.
+fn picked<const N: usize>(random: &mut Prng, calls: [Call; N], all: bool, some: usize) -> Vec<Call> {
+    if all {
+        calls.to_vec()
+    } else {
+        (0..some).map(|_| random.one_of(&calls)).collect()
+    }
+}
+
 /// A set of n bits: at its end, at the word's edge below it, and beside sets a little shorter and longer.
-fn around(judge: &mut Judge, random: &mut Prng, n: usize) -> Result<(), Difference> {
+fn around(judge: &mut Judge, random: &mut Prng, n: usize, all: bool) -> Result<(), Difference> {
     let further = random.below(2);
     let full = set(n, further, |_| true);
     let ends = set(n, further, |p| p == 0 || p + 1 == n);
     let mixed = random_set(random, n, further);
+    let bare = set(n, further, |_| false);
     let edge = n.saturating_sub(1) / 64 * 64;
     for call in PLAIN {
         judge.check(&one(call, ends.clone()))?;
         judge.check(&one(call, full.clone()))?;
     }
     for p in [0, edge.saturating_sub(1), edge, n.saturating_sub(1), n] {
-        let call = at_position(p)[random.below(7)];
-        judge.check(&one(call, mixed.clone()))?;
+        for call in picked(random, at_position(p), all, 1) {
+            judge.check(&one(call, random.one_of(&[&mixed, &full, &bare]).clone()))?;
+            judge.check(&one(call, mixed.clone()))?;
+        }
         judge.check(&one(Call::Edit(Edit::CopyBit(n.saturating_sub(1), p)), ends.clone()))?;
     }
     for (start, end) in [(0, n), (edge, n), (0, edge), (n, n), (n.saturating_sub(1), n), (edge.saturating_sub(1), edge + 1), (n, n + 1), (n + 1, n)] {
-        let calls = over_range(start, end);
-        for call in [calls[random.below(5)], calls[5 + random.below(4)]] {
+        for call in picked(random, over_range(start, end), all, 2) {
             judge.check(&one(call, mixed.clone()))?;
         }
     }
     for longer in [n, n + 1, n + 64, edge + 64, edge + 65, MOST, MOST + 1] {
-        let call = to_length(longer)[random.below(4)];
-        let blocks = random_set(random, n, 0);
-        let mut case = one(call, set(n, 1 + random.below(2), |p| p % 3 == 0));
-        case.b = blocks;
-        judge.check(&case)?;
+        for call in picked(random, to_length(longer), all, 1) {
+            let room = if random.yes() { MOST / 64 } else { words_of(n) + random.below(3) };
+            let mut a = set(n, 0, |p| p % 3 == 0);
+            a.words.resize(room.max(words_of(n)), CALLERS);
+            let b = random_set(random, n, 0);
+            judge.check(&Case { call, a, b, out: Vec::new() })?;
+        }
     }
-    beside(judge, random, n, &mixed, &ends)?;
+    beside(judge, random, n, &mixed, all)?;
     last_steps(judge, random, n, &mixed, &ends)
 }
 
-fn beside(judge: &mut Judge, random: &mut Prng, n: usize, mixed: &Lent, ends: &Lent) -> Result<(), Difference> {
-    let other = [n.saturating_sub(1), n, n + 1, n.saturating_sub(64), n + 64, 1][random.below(6)].min(MOST);
-    let second = random_set(random, other, 0);
-    let room = words_of(n.max(other));
-    for _ in 0..4 {
-        let call = OF_TWO[random.below(OF_TWO.len())];
-        let mut a = if random.yes() { mixed.clone() } else { ends.clone() };
-        a.words.resize((room + random.below(2)).max(words_of(n)), CALLERS);
-        judge.check(&Case { call, a, b: second.clone(), out: vec![CALLERS; room + random.below(2)] })?;
+/// With a second set of about the same length.
+fn beside(judge: &mut Judge, random: &mut Prng, n: usize, mixed: &Lent, all: bool) -> Result<(), Difference> {
+    let lengths = [n.saturating_sub(1), n, n + 1, n.saturating_sub(64), n + 64, 1];
+    let others = if all { lengths.to_vec() } else { vec![random.one_of(&lengths)] };
+    for other in others {
+        let second = random_set(random, other.min(MOST), 0);
+        let room = words_of(n.max(second.length));
+        for call in picked(random, OF_TWO, all, 4) {
+            let mut a = mixed.clone();
+            a.words.resize((room + random.below(2)).max(words_of(n)), CALLERS);
+            judge.check(&Case { call, a, b: second.clone(), out: vec![CALLERS; room + random.below(2)] })?;
+        }
     }
     // The same set a second time, so that equality and subset say yes.
-    let call = [Call::Eq, Call::Cmp, Call::IsSubset, Call::IsSuperset, Call::Longer][random.below(5)];
-    judge.check(&Case { call, a: mixed.clone(), b: mixed.clone(), out: Vec::new() })
+    let calls = [Call::Eq, Call::Cmp, Call::IsSubset, Call::IsSuperset, Call::Longer];
+    for call in picked(random, calls, all, 1) {
+        judge.check(&Case { call, a: mixed.clone(), b: mixed.clone(), out: Vec::new() })?;
+    }
+    Ok(())
 }
 
 /// Some steps at both ends, and steps with a record that stands at the end.

@@ -1,10 +1,14 @@
-//! Every set of 0 to 6 bits, at every position and range, every pair of such sets, every mix of steps, and every short history.
+//! Every set of 0 to 6 bits, at every position and range, every pair of such sets, every mix of steps, and every short history; and the same sets
+//! across a word's edge, from position 61 on.
 
 use crate::cases::{Call, Case, Edit, History, Lent, Record, Walk, WalkCase};
 use crate::inputs::{at_position, one, over_range, set, to_length, CALLERS, OF_TWO, PLAIN};
 use crate::judge::{Difference, Judge};
 
 const LONGEST: usize = 6;
+
+/// Sets from here on have members on both sides of a word's edge.
+const ACROSS: usize = 61;
 
 /// How far the larger families go.
 pub struct Depth {
@@ -15,27 +19,30 @@ pub struct Depth {
 }
 
 pub fn run(judge: &mut Judge, depth: &Depth) -> Result<(), Difference> {
-    let sets = sets(LONGEST);
-    for set in &sets {
-        single(judge, set)?;
-        records(judge, set)?;
-        ones(judge, set)?;
-    }
-    for a in &sets {
-        for b in &sets {
-            pair(judge, a, b)?;
-            walks(judge, a, b, a.length.max(b.length) <= depth.mixed)?;
-            if a.length.max(b.length) <= 2 {
-                pair_records(judge, a, b)?;
+    for from in [0, ACROSS] {
+        let sets = sets(from);
+        for set in &sets {
+            single(judge, set, from)?;
+            records(judge, set, from)?;
+            ones(judge, set)?;
+        }
+        for a in &sets {
+            for b in &sets {
+                let longer = a.length.max(b.length) - from;
+                pair(judge, a, b)?;
+                walks(judge, a, b, longer <= depth.mixed)?;
+                if longer <= 2 {
+                    pair_records(judge, a, b, from)?;
+                }
             }
         }
     }
     histories(judge, depth.every)
 }
 
-/// Every set of 0 to `longest` bits, with no word after it.
-fn sets(longest: usize) -> Vec<Lent> {
-    (0..=longest).flat_map(|length| (0..1usize << length).map(move |bits| set(length, 0, |p| bits >> p & 1 == 1))).collect()
+/// Every set of 0 to 6 bits after `from` bits that are no members, with no word after it.
+fn sets(from: usize) -> Vec<Lent> {
+    (0..=LONGEST).flat_map(|n| (0..1usize << n).map(move |bits| set(from + n, 0, |p| p >= from && bits >> (p - from) & 1 == 1))).collect()
 }
 
 /// The set with words of the caller up to `size`.
@@ -45,10 +52,11 @@ fn lent(set: &Lent, size: usize) -> Lent {
     Lent { length: set.length, words }
 }
 
-fn single(judge: &mut Judge, set: &Lent) -> Result<(), Difference> {
-    let length = set.length;
-    let positions: Vec<usize> = (0..=length + 1).chain([63, 64, usize::MAX]).collect();
-    for size in [set.words.len(), 2] {
+fn single(judge: &mut Judge, set: &Lent, from: usize) -> Result<(), Difference> {
+    let mut positions: Vec<usize> = (from..=set.length + 1).chain([0, 63, 64, usize::MAX]).collect();
+    positions.sort_unstable();
+    positions.dedup();
+    for size in [set.words.len(), set.words.len() + 2] {
         let mut check = |call: Call| judge.check(&one(call, lent(set, size)));
         PLAIN.into_iter().try_for_each(&mut check)?;
         for x in &positions {
@@ -66,8 +74,8 @@ fn single(judge: &mut Judge, set: &Lent) -> Result<(), Difference> {
 }
 
 /// Steps with every record, right and wrong.
-fn records(judge: &mut Judge, set: &Lent) -> Result<(), Difference> {
-    let ends: Vec<usize> = (0..=set.length + 1).chain([64, usize::MAX]).collect();
+fn records(judge: &mut Judge, set: &Lent, from: usize) -> Result<(), Difference> {
+    let ends: Vec<usize> = (from..=set.length + 1).chain([0, 128, usize::MAX]).collect();
     for low in &ends {
         for high in &ends {
             let part = Record { low: *low, high: *high };
@@ -83,9 +91,9 @@ fn records(judge: &mut Judge, set: &Lent) -> Result<(), Difference> {
 }
 
 /// Steps of the walks of two sets with every record of each part, right and wrong.
-fn pair_records(judge: &mut Judge, a: &Lent, b: &Lent) -> Result<(), Difference> {
+fn pair_records(judge: &mut Judge, a: &Lent, b: &Lent, from: usize) -> Result<(), Difference> {
     let records = |length: usize| {
-        let ends = move || 0..=length + 1;
+        let ends = move || from..=length + 1;
         ends().flat_map(move |low| ends().map(move |high| Record { low, high }))
     };
     for one in records(a.length) {
@@ -93,7 +101,7 @@ fn pair_records(judge: &mut Judge, a: &Lent, b: &Lent) -> Result<(), Difference>
             for walk in Walk::ALL.into_iter().filter(|walk| walk.of_two_sets()) {
                 for back in [false, true] {
                     let call = Call::Step { walk, back, one, two };
-                    judge.check(&Case { call, a: lent(a, 1), b: lent(b, 2), out: Vec::new() })?;
+                    judge.check(&Case { call, a: lent(a, 2), b: lent(b, 3), out: Vec::new() })?;
                 }
             }
         }
@@ -118,7 +126,7 @@ fn ones(judge: &mut Judge, set: &Lent) -> Result<(), Difference> {
 
 fn pair(judge: &mut Judge, a: &Lent, b: &Lent) -> Result<(), Difference> {
     for call in OF_TWO {
-        judge.check(&Case { call, a: lent(a, 2), b: lent(b, 1), out: vec![CALLERS; 2] })?;
+        judge.check(&Case { call, a: lent(a, 3), b: lent(b, 2), out: vec![CALLERS; 3] })?;
     }
     // The same with no word to spare, where the lengths may need one.
     for call in [Call::Edit(Edit::UnionWith), Call::Edit(Edit::SymmetricDifferenceWith), Call::BitAnd, Call::BitOr, Call::BitXor] {
@@ -128,13 +136,13 @@ fn pair(judge: &mut Judge, a: &Lent, b: &Lent) -> Result<(), Difference> {
 }
 
 fn walks(judge: &mut Judge, a: &Lent, b: &Lent, mixed: bool) -> Result<(), Difference> {
-    let bits = |set: &Lent| set.words.first().copied().unwrap_or(0);
+    let bits = |set: &Lent| (0..2).map(|k| u128::from(set.words.get(k).copied().unwrap_or(0)) << (64 * k)).sum::<u128>();
     let (x, y) = (bits(a), bits(b));
-    for (walk, size) in [(Walk::Intersection, x & y), (Walk::Difference, x & !y), (Walk::Union, x | y), (Walk::SymmetricDifference, x ^ y)] {
-        let n = size.count_ones() as usize + 1;
+    for (walk, list) in [(Walk::Intersection, x & y), (Walk::Difference, x & !y), (Walk::Union, x | y), (Walk::SymmetricDifference, x ^ y)] {
+        let n = list.count_ones() as usize + 1;
         let mixes: Vec<usize> = if mixed { (0..1 << n).collect() } else { vec![0, (1 << n) - 1, 0x5555, 0xAAAA, 0x6666, 0x1111] };
         for bits in mixes {
-            judge.check(&WalkCase { walk, a: lent(a, 2), b: lent(b, 1), back: mix(bits, n) })?;
+            judge.check(&WalkCase { walk, a: lent(a, 2), b: lent(b, 3), back: mix(bits, n) })?;
         }
     }
     Ok(())
@@ -183,7 +191,7 @@ fn small_calls() -> Vec<[u64; 5]> {
         edits.extend([Edit::Grow(x + 1), Edit::GrowAndInsert(x)]);
         for y in 0..=2 {
             edits.push(Edit::CopyBit(x, y));
-            edits.extend([Edit::InsertRange(x, y), Edit::RemoveRange(x, y), Edit::ToggleRange(x, y), Edit::SetRange(x, y, true)]);
+            edits.extend([Edit::InsertRange(x, y), Edit::RemoveRange(x, y), Edit::ToggleRange(x, y), Edit::SetRange(x, y, true), Edit::SetRange(x, y, false)]);
         }
     }
     edits.extend([Edit::GrowAndInsert(64), Edit::Grow(65), Edit::Grow(129), Edit::GrowAndInsert(65_536)]);

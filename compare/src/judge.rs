@@ -138,8 +138,8 @@ pub struct Tally {
     /// Answers that at least two engines gave.
     pub answers: u64,
     pub histories: u64,
-    /// By pair of engines, in the order of `Judge::pairs`.
-    pub of_pairs: [u64; 3],
+    /// By pair of engines, in the order of `PAIRS`.
+    pub of_pairs: [u64; PAIRS.len()],
 }
 
 /// The two engines' answers to the smallest input found.
@@ -150,7 +150,8 @@ pub struct Judge {
     pub tally: Tally,
 }
 
-const PAIRS: [(usize, usize); 3] = [(0, 1), (0, 2), (1, 2)];
+/// The pairs of up to four engines, by their places. Two engines that agree with the same third need not be compared.
+const PAIRS: [(usize, usize); 5] = [(0, 1), (0, 2), (1, 2), (1, 3), (2, 3)];
 
 impl Judge {
     pub fn new(engines: Vec<Box<dyn Engine>>) -> Self {

@@ -1,4 +1,4 @@
-//! Holds three engines against each other: the engine's archive, the Rust reference, and a model of document 01.
+//! Holds these against each other: the engine's archive, raw and through the safe bindings, the Rust reference, and a model of document 01.
 //!
 //! `compare [--quick | --full] [--seed N]`, `compare --sample FILE`, `compare --bench`. A difference is printed with the smallest input found, and the status is 1.
 
@@ -9,6 +9,8 @@ extern crate fixedbitset;
 mod archive;
 #[cfg(feature = "archive")]
 mod bench;
+#[cfg(feature = "archive")]
+mod bindings;
 mod cases;
 mod damaged;
 mod edges;
@@ -92,6 +94,8 @@ fn engines() -> Vec<Box<dyn cases::Engine>> {
         Box::new(archive::Archive),
         Box::new(reference::Reference),
         Box::new(model::Model),
+        #[cfg(feature = "archive")]
+        Box::new(bindings::Bindings),
     ]
 }
 

@@ -51,16 +51,34 @@ fn simpler_words(words: &[u64]) -> Vec<Vec<u64>> {
 
 fn lents(set: &Lent) -> Vec<Lent> {
     let mut smaller: Vec<Lent> = below(set.length).into_iter().map(|length| Lent { length, words: set.words.clone() }).collect();
-    // A shorter length with no stray bit.
-    for length in below(set.length) {
-        let mut words = set.words.clone();
-        if length % 64 != 0 && length / 64 < words.len() {
-            words[length / 64] &= (1 << (length % 64)) - 1;
-            smaller.push(Lent { length, words });
-        }
-    }
+    smaller.extend(below(set.length).into_iter().map(|length| cut(set, length)));
     smaller.extend(simpler_words(&set.words).into_iter().map(|words| Lent { length: set.length, words }));
     smaller
+}
+
+/// Both sets shorter by the same: cut to one length, or without one word.
+fn both(a: &Lent, b: &Lent) -> Vec<(Lent, Lent)> {
+    let mut smaller: Vec<(Lent, Lent)> = below(a.length.max(b.length)).into_iter().map(|length| (cut(a, length), cut(b, length))).collect();
+    for k in 0..a.words.len().min(b.words.len()).min(8) {
+        smaller.extend(without_word(a, k).zip(without_word(b, k)));
+    }
+    smaller
+}
+
+/// The set cut to a length, with no stray bit.
+fn cut(set: &Lent, length: usize) -> Lent {
+    let mut words = set.words.clone();
+    if length < set.length && length % 64 != 0 && length / 64 < words.len() {
+        words[length / 64] &= (1 << (length % 64)) - 1;
+    }
+    Lent { length: set.length.min(length), words }
+}
+
+fn without_word(set: &Lent, k: usize) -> Option<Lent> {
+    let length = set.length.checked_sub(64)?;
+    let mut words = set.words.clone();
+    words.remove(k);
+    Some(Lent { length, words })
 }
 
 /// The call with each of its numbers replaced.
@@ -107,6 +125,9 @@ fn numbers(call: Call) -> Vec<usize> {
 
 pub fn case(case: &Case) -> Vec<Case> {
     let mut smaller = Vec::new();
+    for (a, b) in both(&case.a, &case.b) {
+        smaller.push(Case { a, b, ..case.clone() });
+    }
     for a in lents(&case.a) {
         smaller.push(Case { a, ..case.clone() });
     }
@@ -136,6 +157,9 @@ pub fn case(case: &Case) -> Vec<Case> {
 
 pub fn walk(case: &WalkCase) -> Vec<WalkCase> {
     let mut smaller = Vec::new();
+    for (a, b) in both(&case.a, &case.b) {
+        smaller.push(WalkCase { a, b, ..case.clone() });
+    }
     for a in lents(&case.a) {
         smaller.push(WalkCase { a, ..case.clone() });
     }
@@ -147,6 +171,7 @@ pub fn walk(case: &WalkCase) -> Vec<WalkCase> {
             smaller.push(WalkCase { back, ..case.clone() });
         }
     }
+    smaller.retain(|candidate| candidate != case);
     smaller
 }
 
