@@ -17,8 +17,9 @@ fn record(part: FbsPart) -> Record {
     Record { low: part.low, high: part.high }
 }
 
+/// `at` is 0 where none is found; any other number there is shown as a position, so that it differs.
 fn found(found: bool, at: usize) -> Option<usize> {
-    found.then_some(at)
+    (found || at != 0).then_some(at)
 }
 
 fn edited(edited: FbsEdited) -> Outcome {

@@ -30,8 +30,7 @@ fn row(name: &str, rust: Duration, engine: Duration) {
     println!("| {name:<38} | {:>12.1} | {:>12.1} | {:>7.2} |", micros(rust), micros(engine), micros(engine) / micros(rust));
 }
 
-/// A set that owns its words, so that it can be copied before each run.
-fn lend(words: &mut Vec<u64>) -> FixedBitSet<'_> {
+fn lend(words: &mut [u64]) -> FixedBitSet<'_> {
     FixedBitSet::from_parts(MOST, words).expect("a whole set")
 }
 
@@ -59,19 +58,25 @@ pub fn run(seed: u64) {
     row(
         &format!("insert of {POSITIONS} random positions"),
         least(|| a.clone(), |set| positions.iter().for_each(|p| set.insert(*p))),
-        least(|| words.clone(), |words| {
-            let mut set = lend(words);
-            positions.iter().for_each(|p| set.insert(*p).expect("a position in the set"));
-        }),
+        least(
+            || words.clone(),
+            |words| {
+                let mut set = lend(words);
+                positions.iter().for_each(|p| set.insert(*p).expect("a position in the set"));
+            },
+        ),
     );
     for (name, ranges) in [("random", &ranges), ("100-bit", &short)] {
         row(
             &format!("insert_range of {RANGES} {name} ranges"),
             least(|| a.clone(), |set| ranges.iter().for_each(|(start, end)| set.insert_range(*start..*end))),
-            least(|| words.clone(), |words| {
-                let mut set = lend(words);
-                ranges.iter().for_each(|(start, end)| set.insert_range(*start..*end).expect("a range in the set"));
-            }),
+            least(
+                || words.clone(),
+                |words| {
+                    let mut set = lend(words);
+                    ranges.iter().for_each(|(start, end)| set.insert_range(*start..*end).expect("a range in the set"));
+                },
+            ),
         );
     }
     row(

@@ -157,17 +157,36 @@ pub enum Call {
     Cmp,
     Longer,
     FirstPart,
-    Step { walk: Walk, back: bool, one: Record, two: Record },
+    Step {
+        walk: Walk,
+        back: bool,
+        one: Record,
+        two: Record,
+    },
     /// A step of the walker that keeps the set's words.
-    WalkerStep { back: bool, part: Record },
+    WalkerStep {
+        back: bool,
+        part: Record,
+    },
     WordCountOnes(u64),
     WordLeadingZeros(u64),
     WordTrailingZeros(u64),
     LastPositiveBitAndUnset(u64),
     LowMask(usize),
-    AskRange { start: usize, end: usize, length: usize },
-    RangeMask { start: usize, end: usize, word: usize },
-    Masks { start: usize, end: usize },
+    AskRange {
+        start: usize,
+        end: usize,
+        length: usize,
+    },
+    RangeMask {
+        start: usize,
+        end: usize,
+        word: usize,
+    },
+    Masks {
+        start: usize,
+        end: usize,
+    },
 }
 
 impl Call {
@@ -196,18 +215,37 @@ pub struct Case {
 pub enum Answer {
     /// An edit: the length after it.
     Length(usize),
-    Put { length: usize, was: bool },
+    Put {
+        length: usize,
+        was: bool,
+    },
     Yes(bool),
     Count(usize),
     /// 0 equal, 1 below, 2 above.
     Order(u64),
     Found(Option<usize>),
     /// A part of the first slice or of the second. An empty part is of neither.
-    Part { second: bool, offset: usize, count: usize },
+    Part {
+        second: bool,
+        offset: usize,
+        count: usize,
+    },
     Record(Record),
-    Stepped { found: Option<usize>, one: Record, two: Record },
-    LastBit { position: usize, rest: u64 },
-    Masks { first_block: usize, end_block: usize, first_mask: u64, last_mask: u64 },
+    Stepped {
+        found: Option<usize>,
+        one: Record,
+        two: Record,
+    },
+    LastBit {
+        position: usize,
+        rest: u64,
+    },
+    Masks {
+        first_block: usize,
+        end_block: usize,
+        first_mask: u64,
+        last_mask: u64,
+    },
     Word(u64),
 }
 

@@ -43,14 +43,21 @@ fn around(judge: &mut Judge, random: &mut Prng, n: usize, all: bool) -> Result<(
     }
     for p in [0, edge.saturating_sub(1), edge, n.saturating_sub(1), n] {
         for call in picked(random, at_position(p), all, 1) {
-            judge.check(&one(call, random.one_of(&[&mixed, &full, &bare]).clone()))?;
-            judge.check(&one(call, mixed.clone()))?;
+            for set in [&mixed, &full, &bare] {
+                if all || random.once_in(2) {
+                    judge.check(&one(call, set.clone()))?;
+                }
+            }
         }
         judge.check(&one(Call::Edit(Edit::CopyBit(n.saturating_sub(1), p)), ends.clone()))?;
     }
     for (start, end) in [(0, n), (edge, n), (0, edge), (n, n), (n.saturating_sub(1), n), (edge.saturating_sub(1), edge + 1), (n, n + 1), (n + 1, n)] {
         for call in picked(random, over_range(start, end), all, 2) {
-            judge.check(&one(call, mixed.clone()))?;
+            for set in [&mixed, &full, &bare] {
+                if all || random.once_in(2) {
+                    judge.check(&one(call, set.clone()))?;
+                }
+            }
         }
     }
     for longer in [n, n + 1, n + 64, edge + 64, edge + 65, MOST, MOST + 1] {
@@ -94,7 +101,9 @@ fn last_steps(judge: &mut Judge, random: &mut Prng, n: usize, mixed: &Lent, ends
     judge.check(&WalkCase { walk, a: mixed.clone(), b: ends.clone(), back: back.clone() })?;
     judge.check(&WalkCase { walk: Walk::Ones, a: ends.clone(), b: mixed.clone(), back })?;
     judge.check(&WalkCase { walk: Walk::Zeroes, a: ends.clone(), b: mixed.clone(), back: vec![false; 4] })?;
-    for part in [Record { low: n.saturating_sub(1), high: n }, Record { low: n, high: n }, Record { low: 0, high: n + 1 }, Record { low: n + 1, high: n }] {
+    for part in
+        [Record { low: n.saturating_sub(1), high: n }, Record { low: n, high: n }, Record { low: 0, high: n + 1 }, Record { low: n + 1, high: n }]
+    {
         let two = Record { low: 0, high: n };
         let call = Call::Step { walk, back: random.yes(), one: part, two };
         judge.check(&Case { call, a: ends.clone(), b: mixed.clone(), out: Vec::new() })?;
@@ -117,7 +126,8 @@ fn words(judge: &mut Judge, random: &mut Prng) -> Result<(), Difference> {
     for r in (0..=70).chain([usize::MAX]) {
         judge.check(&one(Call::LowMask(r), none.clone()))?;
     }
-    let ends: Vec<usize> = vec![0, 1, 62, 63, 64, 65, 100, 127, 128, 129, 192, 65_535, 65_536, usize::MAX - 64, usize::MAX - 63, usize::MAX - 1, usize::MAX];
+    let ends: Vec<usize> =
+        vec![0, 1, 62, 63, 64, 65, 100, 127, 128, 129, 192, 65_535, 65_536, usize::MAX - 64, usize::MAX - 63, usize::MAX - 1, usize::MAX];
     for start in &ends {
         for end in &ends {
             let (start, end) = (*start, *end);

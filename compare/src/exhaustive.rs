@@ -191,7 +191,13 @@ fn small_calls() -> Vec<[u64; 5]> {
         edits.extend([Edit::Grow(x + 1), Edit::GrowAndInsert(x)]);
         for y in 0..=2 {
             edits.push(Edit::CopyBit(x, y));
-            edits.extend([Edit::InsertRange(x, y), Edit::RemoveRange(x, y), Edit::ToggleRange(x, y), Edit::SetRange(x, y, true), Edit::SetRange(x, y, false)]);
+            edits.extend([
+                Edit::InsertRange(x, y),
+                Edit::RemoveRange(x, y),
+                Edit::ToggleRange(x, y),
+                Edit::SetRange(x, y, true),
+                Edit::SetRange(x, y, false),
+            ]);
         }
     }
     edits.extend([Edit::GrowAndInsert(64), Edit::Grow(65), Edit::Grow(129), Edit::GrowAndInsert(65_536)]);

@@ -111,17 +111,8 @@ pub fn one(call: Call, a: Lent) -> Case {
 }
 
 /// The calls of one set that take no number.
-pub const PLAIN: [Call; 9] = [
-    Call::Len,
-    Call::IsEmpty,
-    Call::AsSlice,
-    Call::IsFull,
-    Call::IsClear,
-    Call::Minimum,
-    Call::Maximum,
-    Call::FirstPart,
-    Call::Edit(Edit::Clear),
-];
+pub const PLAIN: [Call; 9] =
+    [Call::Len, Call::IsEmpty, Call::AsSlice, Call::IsFull, Call::IsClear, Call::Minimum, Call::Maximum, Call::FirstPart, Call::Edit(Edit::Clear)];
 
 /// The calls of two sets.
 pub const OF_TWO: [Call; 17] = [

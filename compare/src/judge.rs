@@ -1,8 +1,8 @@
 //! Asks every engine the same and holds their answers against each other.
 
 use crate::cases::{Case, Engine, History, Outcome, Ran, WalkCase, Walked};
-use crate::shrink;
 use crate::show;
+use crate::shrink;
 
 /// Something that engines can be asked.
 pub trait Input: Clone {

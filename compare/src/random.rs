@@ -1,7 +1,9 @@
 //! Random calls and walks, with whole sets and with damaged ones.
 
 use crate::cases::{Call, Case, Lent, Record, Walk, WalkCase};
-use crate::inputs::{at_position, over_range, random_edit, random_length, random_number, random_range, random_set, to_length, words_of, HUGE, OF_TWO, PLAIN};
+use crate::inputs::{
+    at_position, over_range, random_edit, random_length, random_number, random_range, random_set, to_length, words_of, HUGE, OF_TWO, PLAIN,
+};
 use crate::judge::{Difference, Judge};
 use crate::prng::Prng;
 

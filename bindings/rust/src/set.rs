@@ -79,6 +79,8 @@ impl<'w> FixedBitSet<'w> {
         View::whole(self.set, self.words)
     }
 
+    // SAFETY of the calls that go through `edited`: it gives them the pointer and the number of words of a slice that is borrowed alone.
+
     /// Makes the position a member.
     pub fn insert(&mut self, bit: usize) -> Result<(), Refusal> {
         self.edited(|set, words, size| unsafe { ffi::fbs_insert(set, words, size, bit) })

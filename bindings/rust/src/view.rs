@@ -49,6 +49,8 @@ impl<'w> View<'w> {
         (self.set, self.words.as_ptr(), self.words.len())
     }
 
+    // SAFETY of the calls that go through `told`: it gives them the pointer and the number of words of a slice.
+
     /// The length in bits.
     pub fn len(self) -> usize {
         let (set, words, size) = self.raw();

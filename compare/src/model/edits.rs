@@ -44,7 +44,7 @@ fn lengthen(set: &mut Members, n: usize) {
 }
 
 fn join(set: &mut Members, other: &[bool], operation: fn(bool, bool) -> bool) {
-    for p in 0..set.len() {
-        set[p] = operation(set[p], has(other, p));
+    for (p, member) in set.iter_mut().enumerate() {
+        *member = operation(*member, has(other, p));
     }
 }

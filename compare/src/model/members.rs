@@ -36,7 +36,7 @@ pub fn word(members: &[bool], k: usize) -> u64 {
 
 /// Puts a set into its first W words; the words after them stay.
 pub fn write(members: &[bool], words: &mut [u64]) {
-    for k in 0..words_of(members.len()) {
-        words[k] = word(members, k);
+    for (k, own) in words[..words_of(members.len())].iter_mut().enumerate() {
+        *own = word(members, k);
     }
 }
