@@ -150,7 +150,7 @@ pub struct Judge {
     pub tally: Tally,
 }
 
-/// The pairs of up to four engines, by their places. Two engines that agree with the same third need not be compared.
+/// The pairs of up to four engines, by their places; the first and the last are two forms of the same one.
 const PAIRS: [(usize, usize); 5] = [(0, 1), (0, 2), (1, 2), (1, 3), (2, 3)];
 
 impl Judge {
@@ -203,8 +203,9 @@ impl Judge {
     }
 
     pub fn check_history(&mut self, history: &History) -> Result<(), Difference> {
+        let before = self.tally.answers;
         self.check(history)?;
-        self.tally.histories += 1;
+        self.tally.histories += u64::from(self.tally.answers > before);
         Ok(())
     }
 
