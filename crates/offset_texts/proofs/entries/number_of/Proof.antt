@@ -1,0 +1,24 @@
+-- `offset_texts::entries::number_of` meets its contract. Assumes nothing.
+use borrow.Author.Tests.{eq-eqb, ne-eqb, lt-ltb, le-ltb}
+use Rattle.offset_texts.specs.Lines.{numberOf}
+use Rattle.offset_texts.proofs.entries.number_of.Statement.{statement}
+use Rattle.offset_texts.proofs.entries.number_of.Tie as tie
+
+returns : tie.Need-returns
+unfolding numberOf
+returns c = rw (eq-eqb _ 0 (c .if1 .taken))
+
+returns-2 : tie.Need-returns-2
+unfolding numberOf
+returns-2 c = rw (ne-eqb _ 0 (c .before .if1 .left), lt-ltb 19 _ (c .if2 .taken))
+
+returns-3 : tie.Need-returns-3
+unfolding numberOf
+returns-3 c = rw (ne-eqb _ 0 (c .before .before .if1 .left), le-ltb 19 _ (c .before .if2 .left), lt-ltb _ 65536 (c .if3 .taken))
+
+returns-4 : tie.Need-returns-4
+unfolding numberOf
+returns-4 c = rw (ne-eqb _ 0 (c .before .before .if1 .left), le-ltb 19 _ (c .before .if2 .left), le-ltb _ 65536 (c .if3 .left))
+
+pub number-of-spec : {M : Type 1} → statement M
+number-of-spec = tie.close (tie.spec returns returns-2 returns-3 returns-4)

@@ -1,0 +1,83 @@
+-- `offset_texts::readings::step` meets its contract. Assumes nothing.
+use mathlib.Core.Path.{refl}
+use Rattle.offset_texts.proofs.Loops.{step-by}
+use borrow.Author.Needs.{needs}
+use Rattle.offset_texts.proofs.readings.step.Statement.{statement}
+use Rattle.offset_texts.proofs.readings.step.Tie as tie
+
+enum-told : tie.Need-enum-told
+enum-told c = search needs
+
+kind-of-requires : tie.Need-kind-of-requires
+kind-of-requires c κs = search needs
+
+number-step-requires : tie.Need-number-step-requires
+number-step-requires c κs = search needs
+
+enum-told-2 : tie.Need-enum-told-2
+enum-told-2 c = search needs
+
+kind-of-requires-2 : tie.Need-kind-of-requires-2
+kind-of-requires-2 c κs = search needs
+
+number-step-requires-2 : tie.Need-number-step-requires-2
+number-step-requires-2 c κs = search needs
+
+enum-told-3 : tie.Need-enum-told-3
+enum-told-3 c = search needs
+
+kind-of-requires-3 : tie.Need-kind-of-requires-3
+kind-of-requires-3 c κs = search needs
+
+rest-step-requires : tie.Need-rest-step-requires
+rest-step-requires c κs = search needs
+
+enum-told-4 : tie.Need-enum-told-4
+enum-told-4 c = search needs
+
+moved-on-requires : tie.Need-moved-on-requires
+moved-on-requires c κs = search needs
+
+enum-told-5 : tie.Need-enum-told-5
+enum-told-5 c = search needs
+
+moved-on-requires-2 : tie.Need-moved-on-requires-2
+moved-on-requires-2 c κs = search needs
+
+returns : tie.Need-returns
+returns c = step-by _ _ (c .before .before .enum-told .given .1) (c .before .kind-of .ensures) (c .number-step .ensures)
+
+returns-2 : tie.Need-returns-2
+returns-2 c = step-by _ _ (c .before .before .enum-told2 .given .1) (c .before .kind-of2 .ensures) (c .number-step2 .ensures)
+
+returns-3 : tie.Need-returns-3
+returns-3 c = step-by _ _ (c .before .before .enum-told3 .given .1) (c .before .kind-of3 .ensures) (c .rest-step .ensures)
+
+returns-4 : tie.Need-returns-4
+returns-4 c = step-by _ _ (c .before .enum-told4 .given .1) refl (c .moved-on .ensures)
+
+returns-5 : tie.Need-returns-5
+returns-5 c = step-by _ _ (c .before .enum-told5 .given .1) refl (c .moved-on2 .ensures)
+
+pub step-spec : {M : Type 1} → statement M
+step-spec =
+    tie.close
+    (tie.spec
+    enum-told
+    kind-of-requires
+    number-step-requires
+    enum-told-2
+    kind-of-requires-2
+    number-step-requires-2
+    enum-told-3
+    kind-of-requires-3
+    rest-step-requires
+    enum-told-4
+    moved-on-requires
+    enum-told-5
+    moved-on-requires-2
+    returns
+    returns-2
+    returns-3
+    returns-4
+    returns-5)
