@@ -16,6 +16,7 @@ use two_set_counts::symmetric_difference_count;
 use two_set_counts::union_count;
 ghost use mathlib.Core.Path.{_≡_};
 ghost use mathlib.Core.Bool.{cond};
+ghost use lib.Dec.{leb};
 ghost use Rattle.two_sets.specs.Rules.{bothQuestions};
 ghost use Rattle.two_set_counts.specs.Rules.{unionCountRule, intersectionCountRule, differenceCountRule, symmetricDifferenceCountRule};
 ghost use Rattle.comparisons.specs.Rules.{isDisjointRule, isSubsetRule, isSupersetRule};
@@ -128,7 +129,7 @@ pub extern "C" fn fbs_longer<'a>(
     b: FixedBitSet,
     other: &'a [u64],
 ) -> FbsLonger
-    ensures { λ r. ⌜ PartOf (r .offset) (r .count) (cond (r .second) (now (other .entry)) (now (words .entry))) (longerRule a (now (words .entry)) b (now (other .entry))) ⌝ }
+    ensures { λ r. ⌜ (r .second ≡ leb (a .length) (b .length)) × PartOf (r .offset) (r .count) (cond (r .second) (now (other .entry)) (now (words .entry))) (longerRule a (now (words .entry)) b (now (other .entry))) ⌝ }
 {
     FbsLonger {
         second: a.length <= b.length,

@@ -1,4 +1,5 @@
 -- `exports::two_set_calls::fbs_longer` meets its contract. Assumes nothing.
+use mathlib.Core.Path.{refl}
 use denote.Ref.{now}
 use Rattle.sets.specs.Members.{wordsOf}
 use Rattle.two_sets.specs.Rules.{bothQuestions}
@@ -15,7 +16,7 @@ returns c =
     let a = c .before .before .before .before .before .args in
     let ws = now (a .words) in
     let vs = now (a .other) in
-    rw (c .longer .ensures) (longer-words (bothQuestions (a .a) ws (a .b) vs) (a .a .length) (a .b .length) (wordsOf (a .a .length)) (wordsOf (a .b .length)) ws vs)
+    (refl, rw (c .longer .ensures) (longer-words (bothQuestions (a .a) ws (a .b) vs) (a .a .length) (a .b .length) (wordsOf (a .a .length)) (wordsOf (a .b .length)) ws vs))
 
 pub fbs-longer-spec : {M : Type 1} → statement M
 fbs-longer-spec = tie.close (tie.spec longer-requires returns)
