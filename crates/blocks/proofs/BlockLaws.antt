@@ -6,6 +6,7 @@ use mathlib.Core.Logic.{_⊎_, inl, inr}
 use Prim.Native.Nat.{ℕ, zero, suc, _+_, _≤_, _<_}
 use native.Mathlib.Nat.{add-zero, zero-add, add-suc, suc-add, le-of-suc-le-suc, not-suc-le-zero}
 use native.Mathlib.Omega.{arith}
+use lib.Bits.{bitAnd, bitXor, and-zero-r}
 use lib.ListN.{length, getD, List·getD-eq-default}
 use lib.Seq.{ext-getD}
 use Rattle.word_bits.proofs.Order.{lt-or-le}
@@ -76,3 +77,10 @@ swept-same first end f ws same =
     either : (t : Bool) {x : ℕ} → cond t x x ≡ x
     either true = refl
     either false = refl
+
+-- keep nothing and flip nothing
+abbrev pub zeroed : ℕ → ℕ → ℕ
+zeroed k w = bitXor (bitAnd w 0) 0
+
+pub zeroed-is : (k w : ℕ) → zeroed k w ≡ 0
+zeroed-is k w = ap (λ (x : ℕ). bitXor x 0) (and-zero-r w)

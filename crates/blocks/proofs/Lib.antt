@@ -1,2 +1,4 @@
 pub mod BlockLaws
 pub mod LoopLaws
+pub mod WordJoins
+pub mod BlockJoins

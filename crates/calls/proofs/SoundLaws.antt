@@ -18,10 +18,10 @@ use Rattle.sets.proofs.QuestionLaws.{Valid, position-yes, position-below, room,
 use Rattle.sets.proofs.ReadLaws.{read-clipped}
 use Rattle.sets.proofs.WriteLaws.{Clipped}
 use Rattle.edits.specs.Edits.{cleared, grown}
-use Rattle.joins.specs.Operations.{joined}
-use Rattle.joins.specs.declared.operation.Operation.{Operation}
-use Rattle.joins.specs.declared.operation.Operation.the-variants.{Union, Intersection, Difference, SymmetricDifference}
-use Rattle.two_sets.specs.Members.{combined}
+use Rattle.blocks.specs.Operations.{joined}
+use Rattle.blocks.specs.declared.operation.Operation.{Operation}
+use Rattle.blocks.specs.declared.operation.Operation.the-variants.{Union, Intersection, Difference, SymmetricDifference}
+use Rattle.two_sets.specs.Combined.{combined}
 use Rattle.calls.specs.Calls.{Call, Insert, Remove, Put, Toggle, Set, CopyBit, InsertRange, RemoveRange, ToggleRange, SetRange, Clear, Grow, GrowAndInsert, UnionWith, IntersectWith, DifferenceWith, SymmetricDifferenceWith, refusal, done, leaves}
 
 -- a set in a buffer of `size` words

@@ -6,7 +6,7 @@ use Rattle.sets.specs.Members.{Members, setOf}
 use Rattle.sets.specs.Outcomes.{given}
 use Rattle.sets.specs.Questions.{positionQuestion, newQuestions, roomQuestion}
 use Rattle.edits.specs.Edits.{inserted, removed, toggled, assigned, copied, insertedRange, removedRange, toggledRange, assignedRange, cleared, grown, grownAndInserted}
-use Rattle.two_sets.specs.Members.{unioned, symmetricallyDiffered, intersected, differed}
+use Rattle.two_sets.specs.Combined.{unioned, symmetricallyDiffered, intersected, differed}
 
 -- the edits from `insert` to `grow_and_insert` and the four `.._with` calls
 pub data Call : Type 0 where

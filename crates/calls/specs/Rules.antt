@@ -7,14 +7,14 @@ use Rattle.sets.specs.Members.{read, write, setOf}
 use Rattle.sets.specs.Outcomes.{Outcome, given}
 use Rattle.sets.specs.declared.fixed_bit_set.FixedBitSet.{FixedBitSet}
 use Rattle.edits.specs.Rules.{insertRule, removeRule, toggleRule, setRule, copyBitRule, putRule}
-use Rattle.range_edits.specs.Rules.{insertRangeRule, removeRangeRule, toggleRangeRule, setRangeRule}
-use Rattle.growth.specs.Rules.{clearRule, growRule, growAndInsertRule}
+use Rattle.edits.specs.Rules.{insertRangeRule, removeRangeRule, toggleRangeRule, setRangeRule}
+use Rattle.edits.specs.Rules.{clearRule, growRule, growAndInsertRule}
 use Rattle.two_sets.specs.Rules.{bothQuestions}
-use Rattle.set_joins.specs.Rules.{unionWithRule, intersectWithRule, differenceWithRule, symmetricDifferenceWithRule}
+use Rattle.two_sets.specs.Rules.{unionWithRule, intersectWithRule, differenceWithRule, symmetricDifferenceWithRule}
 use Rattle.calls.specs.Calls.{Call, Insert, Remove, Put, Toggle, Set, CopyBit, InsertRange, RemoveRange, ToggleRange, SetRange, Clear, Grow, GrowAndInsert, UnionWith, IntersectWith, DifferenceWith, SymmetricDifferenceWith}
 use Rattle.calls.specs.History.{State, history}
 use Rattle.calls.specs.Encoding.{decodeAll}
-use Rattle.calls.specs.declared.records.Replayed.{Replayed}
+use Rattle.calls.specs.declared.replayed.Replayed.{Replayed}
 
 abbrev pub callRule : Call → FixedBitSet → List ℕ → FixedBitSet → List ℕ → Outcome
 callRule (Insert bit) set ws o vs = insertRule set bit ws

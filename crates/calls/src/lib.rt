@@ -1,7 +1,7 @@
 // A list of editing calls on two sets, run one after the other.
 mod one_call;
-mod records;
+mod replayed;
 mod replays;
 
-pub use records::Replayed;
+pub use replayed::Replayed;
 pub use replays::replay;

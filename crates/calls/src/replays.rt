@@ -1,5 +1,5 @@
 use crate::one_call::make_call;
-use crate::records::Replayed;
+use crate::replayed::Replayed;
 use sets::FixedBitSet;
 use two_sets::check_both;
 ghost use mathlib.Core.Path.{_≡_};

@@ -9,7 +9,7 @@ use Rattle.masks.specs.Ranges.{covers, rangeQuestion}
 use Rattle.sets.specs.Members.{wordsOf, bitOf, read, write, changed}
 use Rattle.sets.specs.Outcomes.{given}
 use Rattle.sets.specs.Questions.{lengthQuestion, wordsQuestion, strayQuestion, questions, positionQuestion, roomQuestion}
-use Rattle.two_sets.specs.Members.{combined}
+use Rattle.two_sets.specs.Combined.{combined}
 use Rattle.two_sets.specs.Rules.{bothQuestions}
 use Rattle.two_set_counts.specs.Lists.{positions}
 use Rattle.parts.specs.Steps.{front, back}

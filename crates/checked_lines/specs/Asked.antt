@@ -12,15 +12,15 @@ use Rattle.sets.specs.declared.fixed_bit_set.FixedBitSet.{FixedBitSet}
 use Rattle.sets.specs.declared.answers.Counted.{Counted}
 use Rattle.sets.specs.declared.answers.Told.{Told}
 use Rattle.edits.specs.Rules.{insertRule, copyBitRule}
-use Rattle.range_edits.specs.Rules.{insertRangeRule}
-use Rattle.queries.specs.declared.found.Found.{Found}
-use Rattle.range_tests.specs.Rules.{isFullRule, isClearRule}
-use Rattle.range_counts.specs.Rules.{countOnesRule}
-use Rattle.extremes.specs.Rules.{minimumRule}
-use Rattle.set_joins.specs.Rules.{unionWithRule}
+use Rattle.edits.specs.Rules.{insertRangeRule}
+use Rattle.sets.specs.declared.found.Found.{Found}
+use Rattle.tests.specs.Rules.{isFullRule, isClearRule}
+use Rattle.tests.specs.Rules.{countOnesRule}
+use Rattle.tests.specs.Rules.{minimumRule}
+use Rattle.two_sets.specs.Rules.{unionWithRule}
 use Rattle.whole_walks.specs.Walks.{walkList}
 use Rattle.whole_walks.specs.Rules.{WalkOutcome, answerWord, walkRule}
-use Rattle.whole_walks.specs.declared.records.Walk.{Walk}
+use Rattle.whole_walks.specs.declared.walk.Walk.{Walk}
 
 -- a set with its lent words, and the call or the walk
 pub data Asked : Type 0 where

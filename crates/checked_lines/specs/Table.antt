@@ -2,7 +2,7 @@
 use mathlib.Core.List.{List, [], _∷_}
 use Prim.Native.Nat.{ℕ}
 use Rattle.sets.specs.declared.fixed_bit_set.FixedBitSet.{FixedBitSet}
-use Rattle.whole_walks.specs.declared.records.Walk.the-variants.{Ones, Union, SymmetricDifference}
+use Rattle.whole_walks.specs.declared.walk.Walk.the-variants.{Ones, Union, SymmetricDifference}
 use Rattle.checked_lines.specs.Asked.{Asked, IsFull, IsClear, Minimum, Insert, CopyBit, InsertRange, CountOnes, UnionWith, LastBitOf, Listed, Steps}
 
 -- the line's place among those marked P, from 1

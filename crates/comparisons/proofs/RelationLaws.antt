@@ -20,13 +20,13 @@ use Rattle.sets.proofs.OutcomeLaws.{given-yes}
 use Rattle.sets.proofs.QuestionLaws.{first-yes}
 use Rattle.sets.proofs.ReadLaws.{read-above}
 use Rattle.sets.proofs.WordLaws.{words-hold}
-use Rattle.queries.specs.Rules.{rangeQuestions}
-use Rattle.queries.proofs.RowLaws.{some-ext, all-not-some}
-use Rattle.range_tests.specs.RangeTests.{anyIn}
-use Rattle.range_tests.specs.Rules.{containsAnyRule}
-use Rattle.joins.specs.declared.operation.Operation.the-variants.{Intersection, Difference}
+use Rattle.tests.specs.Rules.{rangeQuestions}
+use Rattle.tests.proofs.RowLaws.{some-ext, all-not-some}
+use Rattle.tests.specs.Tests.{anyIn}
+use Rattle.tests.specs.Rules.{containsAnyRule}
+use Rattle.blocks.specs.declared.operation.Operation.the-variants.{Intersection, Difference}
 use Rattle.comparisons.specs.Relations.{disjoint, subset}
-use Rattle.comparisons.specs.Search.{common}
+use Rattle.comparisons.specs.Helpers.{common}
 use Rattle.comparisons.proofs.SearchLaws.{Searched, joinedAt, none-below, joined-some, joined-none}
 
 pub member-below : (ws : List ℕ) (set : FixedBitSet) (p : ℕ) → read ws set .has p ≡ true → p < set .length

@@ -18,13 +18,13 @@ use Rattle.sets.specs.Questions.{questions}
 use Rattle.sets.specs.declared.fixed_bit_set.FixedBitSet.{FixedBitSet}
 use Rattle.sets.proofs.QuestionLaws.{valid, first-both}
 use Rattle.sets.proofs.ReadLaws.{read-digit}
-use Rattle.joins.specs.Operations.{joined, joinedWord, maskedJoin}
+use Rattle.blocks.specs.Operations.{joined, joinedWord, maskedJoin}
 use Rattle.two_sets.specs.Rules.{bothQuestions}
-use Rattle.joins.specs.declared.operation.Operation.{Operation}
-use Rattle.joins.specs.declared.operation.Operation.the-variants.{Intersection, Difference, SymmetricDifference}
+use Rattle.blocks.specs.declared.operation.Operation.{Operation}
+use Rattle.blocks.specs.declared.operation.Operation.the-variants.{Intersection, Difference, SymmetricDifference}
 use Rattle.two_sets.proofs.SetJoins.{BothValid}
-use Rattle.joins.proofs.WordJoins.{joined-digit, joined-lt, intersection-word, difference-word, symmetric-difference-word}
-use Rattle.comparisons.specs.Search.{common, FirstAt}
+use Rattle.blocks.proofs.WordJoins.{joined-digit, joined-lt, intersection-word, difference-word, symmetric-difference-word}
+use Rattle.comparisons.specs.Helpers.{common, FirstAt}
 
 -- ---- the searched words as joined words
 

@@ -1,3 +1,4 @@
 pub mod Relations
 pub mod Rules
-pub mod Search
+pub mod Helpers
+pub mod Orders

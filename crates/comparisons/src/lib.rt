@@ -1,10 +1,16 @@
-// Tests of two sets, from a search over their words.
+// Tests of two sets, their equality and order, and the words of the longer.
+mod longer_set;
+mod orders;
+mod relations;
 mod search;
-mod subsets;
-mod supersets;
 
+pub use longer_set::longer;
+pub use longer_set::longer_number;
+pub use orders::Compared;
+pub use orders::cmp;
+pub use orders::eq;
+pub use relations::is_disjoint;
+pub use relations::is_subset;
+pub use relations::is_superset;
 pub use search::common_blocks;
 pub use search::first_joined;
-pub use subsets::is_disjoint;
-pub use subsets::is_subset;
-pub use supersets::is_superset;

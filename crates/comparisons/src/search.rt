@@ -4,8 +4,8 @@ use sets::blocks_of;
 ghost use mathlib.Core.Path.{_≡_};
 ghost use Prim.Native.Nat.{ℕ, min};
 ghost use lib.ListN.{length, getD};
-ghost use Rattle.joins.specs.Operations.{maskedJoin};
-ghost use Rattle.comparisons.specs.Search.{common, FirstAt};
+ghost use Rattle.blocks.specs.Operations.{maskedJoin};
+ghost use Rattle.comparisons.specs.Helpers.{common, FirstAt};
 
 // How many words both sets have.
 pub fn common_blocks(a: FixedBitSet, b: FixedBitSet) -> usize

@@ -4,17 +4,17 @@ use crate::report::edited;
 use crate::report::found;
 use crate::report::numbers;
 use crate::report::told;
+use comparisons::cmp;
+use edits::grow_and_insert;
 use edits::insert;
-use extremes::minimum;
-use growth::grow_and_insert;
-use orderings::cmp;
-use range_counts::count_ones;
-use range_edits::insert_range;
-use range_tests::is_clear;
-use range_tests::is_full;
-use set_joins::union_with;
-use set_views::len;
+use edits::insert_range;
 use sets::FixedBitSet;
+use sets::len;
+use tests::count_ones;
+use tests::is_clear;
+use tests::is_full;
+use tests::minimum;
+use two_sets::union_with;
 use word_bits::last_positive_bit_and_unset;
 
 fn no_bits(tally: Tally) -> Tally {

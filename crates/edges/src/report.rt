@@ -1,10 +1,10 @@
 use io::print_decimal;
 use io::print_hex;
 use io::write_all;
-use queries::Found;
-use queries::Position;
 use sets::Counted;
 use sets::Edited;
+use sets::Found;
+use sets::Position;
 use sets::Told;
 use std::num::wrapping_add_u64;
 use word_lists::same;

@@ -4,16 +4,16 @@ use crate::report::edited;
 use crate::report::found;
 use crate::report::told;
 use edits::insert;
-use extremes::maximum;
-use extremes::minimum;
-use fresh::with_capacity;
-use fresh::with_capacity_and_blocks;
-use range_edits::insert_range;
-use range_tests::is_clear;
-use range_tests::is_full;
-use set_views::is_empty;
-use set_views::len;
+use edits::insert_range;
 use sets::FixedBitSet;
+use sets::is_empty;
+use sets::len;
+use sets::with_capacity;
+use sets::with_capacity_and_blocks;
+use tests::is_clear;
+use tests::is_full;
+use tests::maximum;
+use tests::minimum;
 
 fn blocks(tally: Tally) -> Tally {
     let mut words: [u64; 1] = [9];

@@ -1,1 +1,6 @@
+pub mod WordChanges
+pub mod BlockChanges
 pub mod PositionChanges
+pub mod RangeChanges
+pub mod GrowthLaws
+mod Examples

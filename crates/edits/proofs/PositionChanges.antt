@@ -16,9 +16,9 @@ use Rattle.sets.specs.declared.fixed_bit_set.FixedBitSet.{FixedBitSet}
 use Rattle.sets.proofs.QuestionLaws.{Valid}
 use Rattle.sets.proofs.ReadLaws.{changed-write}
 use Rattle.sets.proofs.WordLaws.{word-of}
-use Rattle.changes.specs.Changes.{effect, changedWord}
-use Rattle.changes.specs.declared.change.Change.{Change}
-use Rattle.changes.proofs.WordChanges.{changed-digit, changed-lt}
+use Rattle.edits.specs.Changes.{effect, changedWord}
+use Rattle.edits.specs.declared.change.Change.{Change}
+use Rattle.edits.proofs.WordChanges.{changed-digit, changed-lt}
 
 -- two equality tests agree where their equations do
 eqb-agree : (a b c d : ℕ) → (a ≡ b → c ≡ d) → (c ≡ d → a ≡ b) → eqb a b ≡ eqb c d

@@ -1,6 +1,14 @@
-// Edits of one position of a set.
+// Edits of a set: of a position, of a range, of the whole set.
+mod change;
+mod covered;
 mod positions;
+mod ranges;
+mod whole_set;
 
+pub use change::Change;
+pub use change::assigning;
+pub use change::change_block;
+pub use covered::change_covered;
 pub use positions::Replaced;
 pub use positions::copy_bit;
 pub use positions::insert;
@@ -8,3 +16,10 @@ pub use positions::put;
 pub use positions::remove;
 pub use positions::set;
 pub use positions::toggle;
+pub use ranges::insert_range;
+pub use ranges::remove_range;
+pub use ranges::set_range;
+pub use ranges::toggle_range;
+pub use whole_set::clear;
+pub use whole_set::grow;
+pub use whole_set::grow_and_insert;

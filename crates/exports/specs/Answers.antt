@@ -1,12 +1,12 @@
 -- Answers as C takes them.
 use mathlib.Core.Bool.{Bool, true, false, cond}
-use Rattle.queries.specs.declared.found.Found.{Found}
-use Rattle.queries.specs.declared.found.Position.{Position}
-use Rattle.queries.specs.declared.found.Position.the-variants.{At, Nothing}
+use Rattle.sets.specs.declared.found.Found.{Found}
+use Rattle.sets.specs.declared.found.Position.{Position}
+use Rattle.sets.specs.declared.found.Position.the-variants.{At, Nothing}
 use Rattle.parts.specs.declared.records.End.{End}
 use Rattle.parts.specs.declared.records.End.the-variants.{Front, Back}
-use Rattle.walks.specs.declared.records.Stepped.{Stepped}
-use Rattle.two_part_walks.specs.declared.records.SteppedPair.{SteppedPair}
+use Rattle.walks.specs.declared.answers.Stepped.{Stepped}
+use Rattle.walks.specs.declared.answers.SteppedPair.{SteppedPair}
 use Rattle.exports.specs.declared.answers.Place.{Place}
 use Rattle.exports.specs.declared.answers.FbsFound.{FbsFound}
 use Rattle.exports.specs.declared.answers.FbsStepped.{FbsStepped}

@@ -4,8 +4,8 @@ use mathlib.Core.Bool.{cond}
 use Prim.Native.Nat.{ℕ, _≤_, _<_}
 use lib.Dec.{eqb}
 use Rattle.sets.specs.Members.{setOf, empty}
-use Rattle.whole_walks.specs.declared.records.Walk.{Walk}
-use Rattle.whole_walks.specs.declared.records.Walk.the-variants.{Ones, Intersection, Difference, Union, SymmetricDifference}
+use Rattle.whole_walks.specs.declared.walk.Walk.{Walk}
+use Rattle.whole_walks.specs.declared.walk.Walk.the-variants.{Ones, Intersection, Difference, Union, SymmetricDifference}
 use Rattle.history.specs.Runs.{Input, Output}
 use Rattle.history.specs.ThirdDemand.{ThirdDemand}
 

@@ -1,8 +1,8 @@
 use parts::Part;
-use queries::Found;
-use queries::Position;
-use two_part_walks::SteppedPair;
+use sets::Found;
+use sets::Position;
 use walks::Stepped;
+use walks::SteppedPair;
 ghost use mathlib.Core.Path.{_≡_};
 ghost use Rattle.exports.specs.Answers.{placeOf, exportFound, exportStepped, exportSteppedPair};
 

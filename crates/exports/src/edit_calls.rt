@@ -1,23 +1,23 @@
 use edits::Replaced;
+use edits::clear;
 use edits::copy_bit;
+use edits::grow;
+use edits::grow_and_insert;
 use edits::insert;
+use edits::insert_range;
 use edits::put;
 use edits::remove;
+use edits::remove_range;
+use edits::set_range;
 use edits::toggle;
-use growth::clear;
-use growth::grow;
-use growth::grow_and_insert;
-use range_edits::insert_range;
-use range_edits::remove_range;
-use range_edits::set_range;
-use range_edits::toggle_range;
+use edits::toggle_range;
 use sets::Edited;
 use sets::FixedBitSet;
 ghost use mathlib.Core.Path.{_≡_};
 ghost use Rattle.sets.specs.Outcomes.{outcome};
 ghost use Rattle.edits.specs.Rules.{insertRule, removeRule, toggleRule, setRule, copyBitRule, putOutcome, putRule};
-ghost use Rattle.range_edits.specs.Rules.{insertRangeRule, removeRangeRule, toggleRangeRule, setRangeRule};
-ghost use Rattle.growth.specs.Rules.{clearRule, growRule, growAndInsertRule};
+ghost use Rattle.edits.specs.Rules.{insertRangeRule, removeRangeRule, toggleRangeRule, setRangeRule};
+ghost use Rattle.edits.specs.Rules.{clearRule, growRule, growAndInsertRule};
 
 #[no_mangle]
 pub extern "C" fn fbs_insert(set: FixedBitSet, words: &mut [u64], bit: usize) -> Edited

@@ -1,16 +1,16 @@
-use set_joins::difference_with;
-use set_joins::intersect_with;
-use set_joins::symmetric_difference_with;
-use set_joins::union_with;
 use sets::Edited;
 use sets::FixedBitSet;
-use third_buffers::bitand;
-use third_buffers::bitor;
-use third_buffers::bitxor;
+use two_sets::bitand;
+use two_sets::bitor;
+use two_sets::bitxor;
+use two_sets::difference_with;
+use two_sets::intersect_with;
+use two_sets::symmetric_difference_with;
+use two_sets::union_with;
 ghost use mathlib.Core.Path.{_≡_};
 ghost use Rattle.sets.specs.Outcomes.{outcome};
-ghost use Rattle.set_joins.specs.Rules.{unionWithRule, symmetricDifferenceWithRule, intersectWithRule, differenceWithRule};
-ghost use Rattle.third_buffers.specs.Rules.{bitandRule, bitorRule, bitxorRule};
+ghost use Rattle.two_sets.specs.Rules.{unionWithRule, symmetricDifferenceWithRule, intersectWithRule, differenceWithRule};
+ghost use Rattle.two_sets.specs.Rules.{bitandRule, bitorRule, bitxorRule};
 
 #[no_mangle]
 pub extern "C" fn fbs_union_with(

@@ -1,22 +1,22 @@
 use crate::answers::FbsFound;
 use crate::answers::found;
-use extremes::maximum;
-use extremes::minimum;
-use queries::contains;
-use range_counts::count_ones;
-use range_counts::count_zeroes;
-use range_tests::contains_all_in_range;
-use range_tests::contains_any_in_range;
-use range_tests::is_clear;
-use range_tests::is_full;
 use sets::Counted;
 use sets::FixedBitSet;
 use sets::Told;
+use tests::contains;
+use tests::contains_all_in_range;
+use tests::contains_any_in_range;
+use tests::count_ones;
+use tests::count_zeroes;
+use tests::is_clear;
+use tests::is_full;
+use tests::maximum;
+use tests::minimum;
 ghost use mathlib.Core.Path.{_≡_};
-ghost use Rattle.queries.specs.Rules.{containsRule};
-ghost use Rattle.range_tests.specs.Rules.{containsAllRule, containsAnyRule, isFullRule, isClearRule};
-ghost use Rattle.range_counts.specs.Rules.{countOnesRule, countZeroesRule};
-ghost use Rattle.extremes.specs.Rules.{minimumRule, maximumRule};
+ghost use Rattle.tests.specs.Rules.{containsRule};
+ghost use Rattle.tests.specs.Rules.{containsAllRule, containsAnyRule, isFullRule, isClearRule};
+ghost use Rattle.tests.specs.Rules.{countOnesRule, countZeroesRule};
+ghost use Rattle.tests.specs.Rules.{minimumRule, maximumRule};
 ghost use Rattle.exports.specs.Answers.{exportFound};
 
 #[no_mangle]

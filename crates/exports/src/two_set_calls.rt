@@ -1,12 +1,12 @@
 use crate::answers::FbsLonger;
+use comparisons::Compared;
+use comparisons::cmp;
+use comparisons::eq;
 use comparisons::is_disjoint;
 use comparisons::is_subset;
 use comparisons::is_superset;
-use longer_sets::longer;
-use longer_sets::longer_number;
-use orderings::Compared;
-use orderings::cmp;
-use orderings::eq;
+use comparisons::longer;
+use comparisons::longer_number;
 use sets::Counted;
 use sets::FixedBitSet;
 use sets::Told;
@@ -20,8 +20,8 @@ ghost use lib.Dec.{leb};
 ghost use Rattle.two_sets.specs.Rules.{bothQuestions};
 ghost use Rattle.two_set_counts.specs.Rules.{unionCountRule, intersectionCountRule, differenceCountRule, symmetricDifferenceCountRule};
 ghost use Rattle.comparisons.specs.Rules.{isDisjointRule, isSubsetRule, isSupersetRule};
-ghost use Rattle.orderings.specs.Rules.{eqRule, cmpRule};
-ghost use Rattle.longer_sets.specs.Rules.{longerRule};
+ghost use Rattle.comparisons.specs.Rules.{eqRule, cmpRule};
+ghost use Rattle.comparisons.specs.Rules.{longerRule};
 ghost use Rattle.exports.specs.Slices.{PartOf};
 
 #[no_mangle]

@@ -1,19 +1,19 @@
 use crate::answers::FbsSlice;
-use fresh::with_capacity;
-use fresh::with_capacity_and_blocks;
-use set_views::as_slice;
-use set_views::as_slice_number;
-use set_views::is_empty;
-use set_views::len;
 use sets::Counted;
 use sets::Edited;
 use sets::FixedBitSet;
 use sets::Told;
+use sets::as_slice;
+use sets::as_slice_number;
+use sets::is_empty;
+use sets::len;
+use sets::with_capacity;
+use sets::with_capacity_and_blocks;
 ghost use mathlib.Core.Path.{_≡_};
 ghost use Rattle.sets.specs.Outcomes.{outcome};
 ghost use Rattle.sets.specs.Questions.{questions};
-ghost use Rattle.fresh.specs.Rules.{withCapacityRule, withCapacityAndBlocksRule};
-ghost use Rattle.set_views.specs.Calls.{lenRule, isEmptyRule, asSliceRule};
+ghost use Rattle.sets.specs.Rules.{withCapacityRule, withCapacityAndBlocksRule};
+ghost use Rattle.sets.specs.Rules.{lenRule, isEmptyRule, asSliceRule};
 ghost use Rattle.exports.specs.Slices.{PartOf};
 
 #[no_mangle]

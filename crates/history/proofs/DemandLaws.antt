@@ -12,7 +12,7 @@ use Rattle.calls.proofs.SoundLaws.{Sound}
 use Rattle.calls.proofs.HistoryLaws.{Keeps, history-kept}
 use Rattle.whole_walks.specs.Walks.{walkList, answers}
 use Rattle.whole_walks.specs.Walked.{Walked}
-use Rattle.whole_walks.specs.declared.records.Walk.{Walk}
+use Rattle.whole_walks.specs.declared.walk.Walk.{Walk}
 use Rattle.whole_walks.proofs.WalkedLaws.{walked}
 
 pub empty-sound : (n size : ℕ) → newQuestions n size ≡ 0 → Sound size (empty n)

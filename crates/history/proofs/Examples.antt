@@ -8,8 +8,8 @@ use Rattle.sets.specs.Members.{wordsOf, changed}
 use Rattle.sets.specs.Outcomes.{given}
 use Rattle.sets.specs.Questions.{positionQuestion, newLengthQuestion, roomQuestion}
 use Rattle.edits.specs.Edits.{grown}
-use Rattle.two_sets.specs.Members.{combined}
-use Rattle.queries.specs.declared.found.Position.the-variants.{At, Nothing}
+use Rattle.two_sets.specs.Combined.{combined}
+use Rattle.sets.specs.declared.found.Position.the-variants.{At, Nothing}
 use Rattle.two_set_counts.specs.Lists.{positions}
 use Rattle.parts.specs.Steps.{front}
 use Rattle.parts.specs.declared.records.End.the-variants.{Front}
@@ -17,7 +17,7 @@ use Rattle.calls.specs.Calls.{leaves}
 use Rattle.calls.specs.Encoding.{decodeAll}
 use Rattle.calls.specs.History.{State, history, fresh}
 use Rattle.whole_walks.specs.Walks.{walkList, answers, answersFrom}
-use Rattle.whole_walks.specs.declared.records.Walk.the-variants.{Ones, Union, SymmetricDifference}
+use Rattle.whole_walks.specs.declared.walk.Walk.the-variants.{Ones, Union, SymmetricDifference}
 
 -- on A insert 1, an insert of 65 that is refused, grow_and_insert 70; on B insert_range 0..2, a number that is no call
 made : State

@@ -14,9 +14,9 @@ use Rattle.sets.proofs.QuestionLaws.{first-both, first-yes, valid-yes}
 use Rattle.sets.proofs.ReadLaws.{write-valid}
 use Rattle.sets.proofs.WordLaws.{words-mono}
 use Rattle.sets.proofs.WriteLaws.{read-write, write-write, length-write}
-use Rattle.fresh.specs.Rules.{withCapacityRule}
-use Rattle.queries.specs.declared.found.Position.{Position}
-use Rattle.queries.specs.declared.found.Position.the-variants.{At, Nothing}
+use Rattle.sets.specs.Rules.{withCapacityRule}
+use Rattle.sets.specs.declared.found.Position.{Position}
+use Rattle.sets.specs.declared.found.Position.the-variants.{At, Nothing}
 use Rattle.two_sets.specs.Rules.{bothQuestions}
 use Rattle.calls.specs.Encoding.{decodeAll}
 use Rattle.calls.specs.History.{fresh, history}

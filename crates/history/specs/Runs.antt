@@ -8,8 +8,8 @@ use Rattle.sets.specs.declared.fixed_bit_set.FixedBitSet.{FixedBitSet}
 use Rattle.calls.specs.Encoding.{decodeAll}
 use Rattle.calls.specs.History.{State, fresh, history}
 use Rattle.whole_walks.specs.Rules.{answersQuestion}
-use Rattle.whole_walks.specs.declared.records.Walk.{Walk}
-use Rattle.history.specs.declared.records.Ran.{Ran}
+use Rattle.whole_walks.specs.declared.walk.Walk.{Walk}
+use Rattle.history.specs.declared.ran.Ran.{Ran}
 
 -- two lengths with their buffers, the calls as numbers, the walk, the steps as numbers, and the buffer for the answers
 pub record Input : Type 0 where

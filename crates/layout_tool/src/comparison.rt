@@ -4,13 +4,13 @@ use crate::texts::say;
 use crate::texts::say_number;
 use crate::texts::say_offsets;
 use parts::Part;
-use queries::Position;
-use queries::contains;
 use sets::FixedBitSet;
+use sets::Position;
 use std::num::wrapping_add_u64;
-use third_buffers::bitxor;
+use tests::contains;
 use two_set_counts::difference_count;
 use two_set_counts::union_count;
+use two_sets::bitxor;
 use walks::first_part;
 use walks::ones_next;
 

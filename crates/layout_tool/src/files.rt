@@ -7,10 +7,10 @@ use offset_texts::Entry;
 use offset_texts::Reading;
 use offset_texts::entry_of;
 use offset_texts::scan;
-use queries::Position;
-use range_counts::count_ones;
 use sets::FixedBitSet;
+use sets::Position;
 use std::num::wrapping_add_u64;
+use tests::count_ones;
 use walks::first_part;
 use walks::ones_next;
 

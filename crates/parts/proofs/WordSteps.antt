@@ -16,7 +16,7 @@ use Rattle.masks.specs.Ranges.{covers, endBlock}
 use Rattle.masks.specs.RangeMasks.{rangeMask}
 use Rattle.masks.proofs.RangeLaws.{covers-yes, covers-below, covers-above, end-block, end-block-empty}
 use Rattle.masks.proofs.MaskLaws.{mask-before, mask-beyond}
-use Rattle.queries.specs.declared.found.Position.the-variants.{At, Nothing}
+use Rattle.sets.specs.declared.found.Position.the-variants.{At, Nothing}
 use Rattle.parts.specs.Selections.{row}
 use Rattle.parts.specs.Steps.{front, back}
 use Rattle.parts.specs.declared.records.Part.{Part}

@@ -1,4 +1,4 @@
-use queries::Position;
+use sets::Position;
 
 // Which positions of a set a part is, given another set.
 pub enum Selection {

@@ -3,7 +3,7 @@ use crate::records::Step;
 use blocks::block;
 use masks::Masks;
 use masks::range_mask;
-use queries::Position;
+use sets::Position;
 use word_bits::leading_zeros;
 use word_bits::trailing_zeros;
 ghost use mathlib.Core.Bool.{not};

@@ -5,3 +5,4 @@ pub mod OutcomeLaws
 pub mod ReadLaws
 mod StrayLaws
 pub mod ZeroLaws
+pub mod CopyLaws

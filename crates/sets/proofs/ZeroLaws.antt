@@ -4,23 +4,15 @@ use mathlib.Core.Bool.{Bool, false}
 use mathlib.Core.List.{List}
 use Prim.Native.Nat.{ℕ, _+_, _*_, _≤_, _<_}
 use native.Mathlib.Omega.{arith}
-use lib.Bits.{bitAnd, bitXor, and-zero-r}
 use lib.Dec.{lit<}
 use lib.ListN.{length, getD}
 use Rattle.word_bits.specs.Digits.{wordOf}
 use Rattle.word_bits.proofs.Digits.{digit-of-zero, word-is}
 use Rattle.masks.proofs.RangeLaws.{covers-above}
 use Rattle.blocks.specs.Sweeps.{swept}
-use Rattle.blocks.proofs.BlockLaws.{length-swept, swept-in, swept-out}
+use Rattle.blocks.proofs.BlockLaws.{zeroed, zeroed-is, length-swept, swept-in, swept-out}
 use Rattle.sets.specs.Members.{wordsOf, write, empty}
 use Rattle.sets.proofs.WriteLaws.{write-is}
-
--- keep nothing and flip nothing
-abbrev pub zeroed : ℕ → ℕ → ℕ
-zeroed k w = bitXor (bitAnd w 0) 0
-
-pub zeroed-is : (k w : ℕ) → zeroed k w ≡ 0
-zeroed-is k w = ap (λ (x : ℕ). bitXor x 0) (and-zero-r w)
 
 -- a word with no members
 pub no-members : (m : ℕ → Bool) (k : ℕ) → ((j : ℕ) → j < 64 → m (k * 64 + j) ≡ false) → 0 ≡ wordOf m k

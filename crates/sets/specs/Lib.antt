@@ -1,3 +1,4 @@
 pub mod Members
 pub mod Questions
 pub mod Outcomes
+pub mod Rules

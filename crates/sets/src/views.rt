@@ -1,15 +1,54 @@
+use crate::answers::Counted;
+use crate::answers::Told;
 use crate::fixed_bit_set::FixedBitSet;
-use blocks::block;
+use crate::questions::check;
+use crate::sizes::blocks_of;
 ghost use mathlib.Core.Path.{_≡_};
-ghost use Rattle.sets.specs.Members.{read};
+ghost use Rattle.sets.specs.Questions.{questions};
+ghost use Rattle.sets.specs.Rules.{lenRule, isEmptyRule, asSliceRule};
 
-// Whether a position is a member, for any set and words: no question is asked.
-pub fn member(set: FixedBitSet, words: &[u64], p: usize) -> bool
-    ensures { λ r. ⌜ r ≡ read (now (words .entry)) set .has p ⌝ }
+// The length in bits.
+pub fn len(set: FixedBitSet, words: &[u64]) -> Counted
+    ensures { λ r. ⌜ r ≡ lenRule set (now (words .entry)) ⌝ }
 {
-    if set.length <= p {
-        return false;
+    let number = check(set, words);
+    if number != 0 {
+        return Counted { number, count: 0 };
     }
-    let rem = p % 64;
-    block(words, p / 64) & (1 << rem) != 0
+    Counted {
+        number: 0,
+        count: set.length,
+    }
+}
+
+// Whether the set has no bits, members or not.
+pub fn is_empty(set: FixedBitSet, words: &[u64]) -> Told
+    ensures { λ r. ⌜ r ≡ isEmptyRule set (now (words .entry)) ⌝ }
+{
+    let number = check(set, words);
+    if number != 0 {
+        return Told { number, yes: false };
+    }
+    Told {
+        number: 0,
+        yes: set.length == 0,
+    }
+}
+
+// The words of the set, as a part of the lent slice.
+pub fn as_slice(set: FixedBitSet, words: &[u64]) -> &[u64]
+    ensures { λ r. ⌜ now r ≡ asSliceRule set (now (words .entry)) ⌝ }
+{
+    if check(set, words) != 0 {
+        return &words[..0];
+    }
+    let blocks = blocks_of(set.length);
+    &words[..blocks]
+}
+
+// The number of `as_slice` on the same inputs.
+pub fn as_slice_number(set: FixedBitSet, words: &[u64]) -> u64
+    ensures { λ r. ⌜ r ≡ questions set (now (words .entry)) ⌝ }
+{
+    check(set, words)
 }

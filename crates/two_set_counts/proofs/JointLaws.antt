@@ -17,13 +17,13 @@ use Rattle.sets.proofs.QuestionLaws.{valid-yes}
 use Rattle.sets.proofs.ReadLaws.{read-bit, read-clipped}
 use Rattle.sets.proofs.WordLaws.{words-hold}
 use Rattle.sets.proofs.WriteLaws.{Clipped}
-use Rattle.joins.specs.Operations.{joined}
+use Rattle.blocks.specs.Operations.{joined}
 use Rattle.two_sets.specs.Rules.{bothQuestions}
-use Rattle.joins.specs.declared.operation.Operation.{Operation}
-use Rattle.joins.specs.declared.operation.Operation.the-variants.{Union, Intersection, Difference, SymmetricDifference}
+use Rattle.blocks.specs.declared.operation.Operation.{Operation}
+use Rattle.blocks.specs.declared.operation.Operation.the-variants.{Union, Intersection, Difference, SymmetricDifference}
 use Rattle.two_sets.proofs.SetJoins.{both-valid}
-use Rattle.queries.proofs.RowLaws.{count-clip}
-use Rattle.two_set_counts.specs.Parts.{jointOnes, onesFrom, onesBeyond}
+use Rattle.tests.proofs.RowLaws.{count-clip}
+use Rattle.two_set_counts.specs.Helpers.{jointOnes, onesFrom, onesBeyond}
 
 -- two bits that are no members join to none
 joined-none : (op : Operation) → joined op false false ≡ false

@@ -9,10 +9,10 @@ use Rattle.word_bits.specs.Counts.{count}
 use Rattle.word_bits.specs.Digits.{one}
 use Rattle.sets.specs.Members.{Members}
 use Rattle.sets.proofs.WriteLaws.{Clipped}
-use Rattle.joins.specs.declared.operation.Operation.the-variants.{Union, Intersection, Difference, SymmetricDifference}
-use Rattle.queries.proofs.RowLaws.{count-clip}
+use Rattle.blocks.specs.declared.operation.Operation.the-variants.{Union, Intersection, Difference, SymmetricDifference}
+use Rattle.tests.proofs.RowLaws.{count-clip}
 use Rattle.two_set_counts.specs.Lists.{positions, unionList, intersectionList, differenceList, symmetricDifferenceList}
-use Rattle.two_set_counts.specs.Parts.{jointOnes}
+use Rattle.two_set_counts.specs.Helpers.{jointOnes}
 
 pub length-positions : (n : ℕ) (f : ℕ → Bool) → length (positions n f) ≡ count n f
 unfolding positions count

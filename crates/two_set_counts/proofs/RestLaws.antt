@@ -13,10 +13,10 @@ use Rattle.sets.specs.declared.fixed_bit_set.FixedBitSet.{FixedBitSet}
 use Rattle.sets.specs.declared.answers.Counted.{Counted}
 use Rattle.sets.proofs.OutcomeLaws.{given-yes}
 use Rattle.sets.proofs.QuestionLaws.{first-yes, valid}
-use Rattle.queries.proofs.PartLaws.{part, part-below, part-inside}
-use Rattle.range_counts.specs.RangeCounts.{onesIn}
-use Rattle.range_counts.specs.Rules.{countOnesRule}
-use Rattle.two_set_counts.specs.Parts.{onesFrom}
+use Rattle.tests.proofs.PartLaws.{part, part-below, part-inside}
+use Rattle.tests.specs.Tests.{onesIn}
+use Rattle.tests.specs.Rules.{countOnesRule}
+use Rattle.two_set_counts.specs.Helpers.{onesFrom}
 
 -- what a range up to the end of the set has
 from-range : (start : ℕ) (s : Members) → onesIn (min start (s .len)) (s .len) s ≡ onesFrom start s

@@ -8,10 +8,10 @@ use Rattle.word_bits.specs.Counts.{count}
 use Rattle.word_bits.specs.Digits.{digit}
 use Rattle.word_bits.proofs.Ones.{count-add, count-ext}
 use Rattle.sets.specs.Members.{bitOf}
-use Rattle.joins.specs.Operations.{joined, joinedWord}
-use Rattle.joins.specs.declared.operation.Operation.{Operation}
-use Rattle.joins.proofs.WordJoins.{joined-digit}
-use Rattle.two_set_counts.specs.Parts.{rowOf}
+use Rattle.blocks.specs.Operations.{joined, joinedWord}
+use Rattle.blocks.specs.declared.operation.Operation.{Operation}
+use Rattle.blocks.proofs.WordJoins.{joined-digit}
+use Rattle.two_set_counts.specs.Helpers.{rowOf}
 
 row-at : (f : ℕ → ℕ) (k j : ℕ) → j < 64 → rowOf f (k * 64 + j) ≡ digit (f k) j
 unfolding rowOf

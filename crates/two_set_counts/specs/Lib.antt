@@ -1,3 +1,3 @@
 pub mod Lists
 pub mod Rules
-pub mod Parts
+pub mod Helpers

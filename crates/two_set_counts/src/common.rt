@@ -1,12 +1,12 @@
-use joins::Operation;
+use blocks::Operation;
 use word_bits::count_ones;
 ghost use mathlib.Core.Path.{_≡_};
 ghost use Prim.Native.Nat.{ℕ, _*_, _≤_};
 ghost use lib.ListN.{length, getD};
 ghost use Rattle.word_bits.specs.Counts.{count};
 ghost use Rattle.sets.specs.Members.{bitOf};
-ghost use Rattle.joins.specs.Operations.{joined, maskedJoin};
-ghost use Rattle.two_set_counts.specs.Parts.{rowOf};
+ghost use Rattle.blocks.specs.Operations.{joined, maskedJoin};
+ghost use Rattle.two_set_counts.specs.Helpers.{rowOf};
 
 // How many bits of the words 0..end are set, once joined: `first`, `second` and `both` are all ones or 0,
 // so that one loop with no branch serves the four operations.

@@ -1,13 +1,13 @@
 use crate::common::ones_common;
 use crate::rests::ones_beyond;
+use blocks::Operation;
 use blocks::lesser;
-use joins::Operation;
 use sets::Counted;
 use sets::FixedBitSet;
 use sets::blocks_of;
 use two_sets::check_both;
 ghost use mathlib.Core.Path.{_≡_};
-ghost use Rattle.two_set_counts.specs.Parts.{jointCountRule};
+ghost use Rattle.two_set_counts.specs.Helpers.{jointCountRule};
 ghost use Rattle.two_set_counts.specs.Rules.{unionCountRule, intersectionCountRule, differenceCountRule, symmetricDifferenceCountRule};
 
 // How many members the two sets joined have: those in the words of both, then those beyond.

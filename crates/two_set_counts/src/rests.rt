@@ -1,11 +1,11 @@
+use blocks::Operation;
 use blocks::lesser;
-use joins::Operation;
-use range_counts::count_ones;
 use sets::FixedBitSet;
+use tests::count_ones;
 ghost use mathlib.Core.Path.{_≡_};
 ghost use Rattle.sets.specs.Members.{read};
 ghost use Rattle.sets.specs.Questions.{questions};
-ghost use Rattle.two_set_counts.specs.Parts.{onesFrom, onesBeyond};
+ghost use Rattle.two_set_counts.specs.Helpers.{onesFrom, onesBeyond};
 
 // How many members of a set are at `start` or above it.
 fn ones_from(set: FixedBitSet, words: &[u64], start: usize) -> usize

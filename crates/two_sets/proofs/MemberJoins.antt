@@ -18,11 +18,11 @@ use Rattle.sets.proofs.QuestionLaws.{Valid}
 use Rattle.sets.proofs.ReadLaws.{read-digit, read-above}
 use Rattle.sets.proofs.WordLaws.{words-hold}
 use Rattle.sets.proofs.WriteLaws.{write-is}
-use Rattle.two_sets.specs.Members.{combined}
-use Rattle.joins.specs.Operations.{joined, joinedWord, padded}
-use Rattle.joins.specs.declared.operation.Operation.{Operation}
-use Rattle.joins.proofs.BlockJoins.{padded-in, padded-out}
-use Rattle.joins.proofs.WordJoins.{joined-digit, joined-lt}
+use Rattle.two_sets.specs.Combined.{combined}
+use Rattle.blocks.specs.Operations.{joined, joinedWord, padded}
+use Rattle.blocks.specs.declared.operation.Operation.{Operation}
+use Rattle.blocks.proofs.BlockJoins.{padded-in, padded-out}
+use Rattle.blocks.proofs.WordJoins.{joined-digit, joined-lt}
 
 -- the digits of a set's word, 0 past its words, are its members
 pub padded-digit : (a : FixedBitSet) (ws : List ℕ) → Valid a ws → (k j : ℕ) → j < 64

@@ -8,10 +8,10 @@ use Rattle.blocks.specs.Sweeps.{swept}
 use Rattle.sets.specs.Questions.{questions}
 use Rattle.sets.specs.declared.fixed_bit_set.FixedBitSet.{FixedBitSet}
 use Rattle.sets.proofs.QuestionLaws.{Valid, valid, first-both}
-use Rattle.joins.specs.Operations.{joinedWord, padded}
+use Rattle.blocks.specs.Operations.{joinedWord, padded}
 use Rattle.two_sets.specs.Rules.{bothQuestions}
-use Rattle.joins.specs.declared.operation.Operation.{Operation}
-use Rattle.joins.proofs.BlockJoins.{padded-in, padded-out, three-sweeps}
+use Rattle.blocks.specs.declared.operation.Operation.{Operation}
+use Rattle.blocks.proofs.BlockJoins.{padded-in, padded-out, three-sweeps}
 
 module _ (op : Operation) (blocks others total : ℕ) (ws vs : List ℕ) where
   -- word k of the result

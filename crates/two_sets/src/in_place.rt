@@ -1,9 +1,9 @@
+use blocks::Operation;
+use blocks::join_common;
+use blocks::join_first_alone;
+use blocks::join_second_alone;
 use blocks::larger;
 use blocks::lesser;
-use joins::Operation;
-use joins::join_common;
-use joins::join_first_alone;
-use joins::join_second_alone;
 use sets::Edited;
 use sets::FixedBitSet;
 use sets::ask_new;
@@ -15,9 +15,9 @@ ghost use lib.ListN.{length};
 ghost use Rattle.blocks.specs.Sweeps.{swept};
 ghost use Rattle.sets.specs.Members.{read};
 ghost use Rattle.sets.specs.Outcomes.{outcome, edited};
-ghost use Rattle.joins.specs.Operations.{joinedWord, padded};
-ghost use Rattle.two_sets.specs.Members.{growing, keeping};
-ghost use Rattle.two_sets.specs.Rules.{bothQuestions, growingQuestions};
+ghost use Rattle.blocks.specs.Operations.{joinedWord, padded};
+ghost use Rattle.two_sets.specs.Combined.{growing, keeping};
+ghost use Rattle.two_sets.specs.Rules.{bothQuestions, growingQuestions, unionWithRule, symmetricDifferenceWithRule, intersectWithRule, differenceWithRule};
 
 // Questions 1 to 3 of the first set, then of the second.
 pub fn check_both(a: FixedBitSet, words: &[u64], b: FixedBitSet, other: &[u64]) -> u64
@@ -96,4 +96,33 @@ pub fn grow_with(
         number: 0,
         set: FixedBitSet::new(length),
     }
+}
+
+pub fn union_with(a: FixedBitSet, words: &mut [u64], b: FixedBitSet, other: &[u64]) -> Edited
+    ensures { λ r. ⌜ outcome r (now (words .exit)) ≡ unionWithRule a (now (words .entry)) b (now (other .entry)) ⌝ }
+{
+    grow_with(a, words, b, other, Operation::Union)
+}
+
+pub fn symmetric_difference_with(
+    a: FixedBitSet,
+    words: &mut [u64],
+    b: FixedBitSet,
+    other: &[u64],
+) -> Edited
+    ensures { λ r. ⌜ outcome r (now (words .exit)) ≡ symmetricDifferenceWithRule a (now (words .entry)) b (now (other .entry)) ⌝ }
+{
+    grow_with(a, words, b, other, Operation::SymmetricDifference)
+}
+
+pub fn intersect_with(a: FixedBitSet, words: &mut [u64], b: FixedBitSet, other: &[u64]) -> Edited
+    ensures { λ r. ⌜ outcome r (now (words .exit)) ≡ intersectWithRule a (now (words .entry)) b (now (other .entry)) ⌝ }
+{
+    keep_with(a, words, b, other, Operation::Intersection)
+}
+
+pub fn difference_with(a: FixedBitSet, words: &mut [u64], b: FixedBitSet, other: &[u64]) -> Edited
+    ensures { λ r. ⌜ outcome r (now (words .exit)) ≡ differenceWithRule a (now (words .entry)) b (now (other .entry)) ⌝ }
+{
+    keep_with(a, words, b, other, Operation::Difference)
 }

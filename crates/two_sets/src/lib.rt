@@ -1,6 +1,14 @@
-// Two sets: their questions, and the first joined with the second in place.
+// Two sets joined, in place and into a third buffer.
 mod in_place;
+mod third_buffer;
 
 pub use in_place::check_both;
+pub use in_place::difference_with;
 pub use in_place::grow_with;
+pub use in_place::intersect_with;
 pub use in_place::keep_with;
+pub use in_place::symmetric_difference_with;
+pub use in_place::union_with;
+pub use third_buffer::bitand;
+pub use third_buffer::bitor;
+pub use third_buffer::bitxor;

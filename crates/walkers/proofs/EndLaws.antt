@@ -36,9 +36,9 @@ use denote.Exit.{yes}
 use Rattle.parts.specs.declared.records.End.{End}
 use Rattle.parts.proofs.records.End as E
 use Rattle.parts.proofs.records.End.Laws as E′
-use Rattle.walks.specs.declared.records.Stepped.{Stepped}
-use Rattle.walks.proofs.records.Stepped as S
-use Rattle.walks.proofs.records.Stepped.Laws as S′
+use Rattle.walks.specs.declared.answers.Stepped.{Stepped}
+use Rattle.walks.proofs.answers.Stepped as S
+use Rattle.walks.proofs.answers.Stepped.Laws as S′
 use Rattle.walkers.specs.Rules.{walkerRule, setIn, partIn}
 use Rattle.walkers.specs.declared.walker.Ones.{Ones}
 use Rattle.walkers.proofs.WalkerLaws.{Walker, α, B, twice}

@@ -7,7 +7,7 @@ use Rattle.parts.specs.declared.records.End.{End}
 use Rattle.parts.specs.declared.records.End.the-variants.{Front, Back}
 use Rattle.parts.specs.declared.records.Part.{Part}
 use Rattle.walks.specs.Rules.{onesNextRule, onesNextBackRule}
-use Rattle.walks.specs.declared.records.Stepped.{Stepped}
+use Rattle.walks.specs.declared.answers.Stepped.{Stepped}
 use Rattle.walkers.specs.declared.walker.Ones.{Ones}
 
 -- the set that a walker goes over

@@ -12,7 +12,7 @@ use lib.Seq.{getD-take, length-take-le}
 use Rattle.word_bits.specs.Digits.{digit}
 use Rattle.word_bits.proofs.Digits.{digit-of-zero}
 use Rattle.word_bits.proofs.Order.{lt-or-le}
-use Rattle.set_views.specs.Calls.{asSliceRule}
+use Rattle.sets.specs.Rules.{asSliceRule}
 use Rattle.sets.specs.Members.{wordsOf, bitOf, read}
 use Rattle.sets.specs.Questions.{questions}
 use Rattle.sets.specs.declared.fixed_bit_set.FixedBitSet.{FixedBitSet}

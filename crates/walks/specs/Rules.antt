@@ -1,17 +1,20 @@
 -- The rule of each step of a walk over one set: questions 1 to 3, then 8.
-use mathlib.Core.Bool.{cond, not, _&&_}
+use mathlib.Core.Bool.{cond, not, _&&_, Bool}
 use mathlib.Core.List.{List}
 use Prim.Native.Nat.{ℕ}
 use lib.Dec.{leb}
-use Rattle.sets.specs.Members.{read}
+use Rattle.sets.specs.Members.{read, Members}
 use Rattle.sets.specs.Outcomes.{given}
 use Rattle.sets.specs.Questions.{first, questions}
 use Rattle.sets.specs.declared.fixed_bit_set.FixedBitSet.{FixedBitSet}
-use Rattle.queries.specs.declared.found.Position.the-variants.{Nothing}
+use Rattle.sets.specs.declared.found.Position.the-variants.{Nothing, At}
 use Rattle.parts.specs.Steps.{front, back}
 use Rattle.parts.specs.declared.records.Part.{Part}
 use Rattle.parts.specs.declared.records.Step.{Step}
-use Rattle.walks.specs.declared.records.Stepped.{Stepped}
+use Rattle.walks.specs.declared.answers.Stepped.{Stepped}
+use Rattle.two_sets.specs.Rules.{bothQuestions}
+use Rattle.sets.specs.declared.found.Position.{Position}
+use Rattle.walks.specs.declared.answers.SteppedPair.{SteppedPair}
 
 -- at first 0 and L
 abbrev pub firstPart : FixedBitSet → Part
@@ -38,3 +41,69 @@ onesNextBackRule set ws part = stepped (oneQuestions set ws part) part (back (re
 -- `zeroes`: non-members below L, rising, front steps only
 abbrev pub zeroesNextRule : FixedBitSet → List ℕ → Part → Stepped
 zeroesNextRule set ws part = stepped (oneQuestions set ws part) part (front (λ p. not (read ws set .has p)) part)
+
+abbrev pub twoQuestions : FixedBitSet → List ℕ → FixedBitSet → List ℕ → Part → ℕ
+twoQuestions a ws b vs part = first (bothQuestions a ws b vs) (partQuestion a part)
+
+-- `intersection`, `difference`: members of A that are, or are not, in B, rising
+abbrev pub intersectionNextRule : FixedBitSet → List ℕ → FixedBitSet → List ℕ → Part → Stepped
+intersectionNextRule a ws b vs part = stepped (twoQuestions a ws b vs part) part (front (λ p. read ws a .has p && read vs b .has p) part)
+
+abbrev pub intersectionNextBackRule : FixedBitSet → List ℕ → FixedBitSet → List ℕ → Part → Stepped
+intersectionNextBackRule a ws b vs part = stepped (twoQuestions a ws b vs part) part (back (λ p. read ws a .has p && read vs b .has p) part)
+
+abbrev pub differenceNextRule : FixedBitSet → List ℕ → FixedBitSet → List ℕ → Part → Stepped
+differenceNextRule a ws b vs part = stepped (twoQuestions a ws b vs part) part (front (λ p. read ws a .has p && not (read vs b .has p)) part)
+
+abbrev pub differenceNextBackRule : FixedBitSet → List ℕ → FixedBitSet → List ℕ → Part → Stepped
+differenceNextBackRule a ws b vs part = stepped (twoQuestions a ws b vs part) part (back (λ p. read ws a .has p && not (read vs b .has p)) part)
+
+-- a position or none, and both records
+pub record PairStep : Type 0 where
+  pub at : Position
+  pub one : Part
+  pub two : Part
+
+-- the part that is tried first decides where it gives a position
+abbrev pub orElse : Position → PairStep → PairStep → PairStep
+orElse (At p) x y = x
+orElse Nothing x y = y
+
+-- a front step tries the first part, then the second
+abbrev pub frontPair : (ℕ → Bool) → (ℕ → Bool) → Part → Part → PairStep
+frontPair f g one two = orElse (front f one .at)
+    (record { at = front f one .at; one = front f one .part; two = two })
+    (record { at = front g two .at; one = one; two = front g two .part })
+
+-- a back step the second, then the first
+abbrev pub backPair : (ℕ → Bool) → (ℕ → Bool) → Part → Part → PairStep
+backPair f g one two = orElse (back g two .at)
+    (record { at = back g two .at; one = one; two = back g two .part })
+    (record { at = back f one .at; one = back f one .part; two = two })
+
+-- refused, none and both records as handed in
+abbrev pub steppedPair : ℕ → Part → Part → PairStep → SteppedPair
+steppedPair n one two s = given n (λ m. record { number = m; at = Nothing; one = one; two = two }) (record { number = 0; at = s .at; one = s .one; two = s .two })
+
+abbrev pub pairQuestions : FixedBitSet → List ℕ → FixedBitSet → List ℕ → Part → Part → ℕ
+pairQuestions a ws b vs one two = first (bothQuestions a ws b vs) (first (partQuestion a one) (partQuestion b two))
+
+-- the members of the first that are not in the second
+abbrev pub without : Members → Members → ℕ → Bool
+without s o p = s .has p && not (o .has p)
+
+-- `union`: members of A rising, then members of B not in A rising
+abbrev pub unionNextRule : FixedBitSet → List ℕ → FixedBitSet → List ℕ → Part → Part → SteppedPair
+unionNextRule a ws b vs one two = steppedPair (pairQuestions a ws b vs one two) one two (frontPair (read ws a .has) (without (read vs b) (read ws a)) one two)
+
+abbrev pub unionNextBackRule : FixedBitSet → List ℕ → FixedBitSet → List ℕ → Part → Part → SteppedPair
+unionNextBackRule a ws b vs one two = steppedPair (pairQuestions a ws b vs one two) one two (backPair (read ws a .has) (without (read vs b) (read ws a)) one two)
+
+-- `symmetric_difference`: A without B rising, then B without A rising
+abbrev pub symmetricDifferenceNextRule : FixedBitSet → List ℕ → FixedBitSet → List ℕ → Part → Part → SteppedPair
+symmetricDifferenceNextRule a ws b vs one two =
+    steppedPair (pairQuestions a ws b vs one two) one two (frontPair (without (read ws a) (read vs b)) (without (read vs b) (read ws a)) one two)
+
+abbrev pub symmetricDifferenceNextBackRule : FixedBitSet → List ℕ → FixedBitSet → List ℕ → Part → Part → SteppedPair
+symmetricDifferenceNextBackRule a ws b vs one two =
+    steppedPair (pairQuestions a ws b vs one two) one two (backPair (without (read ws a) (read vs b)) (without (read vs b) (read ws a)) one two)

@@ -1,11 +1,11 @@
+use crate::answers::Stepped;
 use crate::questions::ask_one;
-use crate::records::Stepped;
 use parts::End;
 use parts::Part;
 use parts::Selection;
 use parts::step_selected;
-use queries::Position;
 use sets::FixedBitSet;
+use sets::Position;
 ghost use mathlib.Core.Path.{_≡_};
 ghost use Prim.Native.Nat.{ℕ};
 ghost use Rattle.sets.specs.Members.{read};

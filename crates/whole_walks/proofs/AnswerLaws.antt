@@ -13,11 +13,11 @@ use Rattle.parts.specs.declared.records.End.{End}
 use Rattle.parts.specs.declared.records.Part.{Part}
 use Rattle.walks.specs.Rules.{firstPart, partQuestion}
 use Rattle.walks.proofs.WalkLaws.{part-yes}
-use Rattle.two_part_walks.specs.Rules.{PairStep}
-use Rattle.two_part_walks.specs.declared.records.SteppedPair.{SteppedPair}
+use Rattle.walks.specs.Rules.{PairStep}
+use Rattle.walks.specs.declared.answers.SteppedPair.{SteppedPair}
 use Rattle.whole_walks.specs.Walks.{walkStep, answersFrom, answers}
 use Rattle.whole_walks.specs.Rules.{endOf, answerWord, walkStepRule}
-use Rattle.whole_walks.specs.declared.records.Walk.{Walk}
+use Rattle.whole_walks.specs.declared.walk.Walk.{Walk}
 use Rattle.whole_walks.proofs.RecordLaws.{walk-kept}
 use Rattle.whole_walks.proofs.RuleLaws.{accepted, step-accepted}
 

@@ -14,11 +14,11 @@ use Rattle.sets.specs.Members.{Members}
 use Rattle.sets.proofs.WriteLaws.{Clipped}
 use Rattle.two_set_counts.specs.Lists.{positions}
 use Rattle.two_set_counts.proofs.ListLaws.{either, one-alone}
-use Rattle.two_part_walks.specs.Rules.{without}
+use Rattle.walks.specs.Rules.{without}
 use Rattle.whole_walks.specs.Walks.{walkList, wanted}
 use Rattle.whole_walks.specs.Walked.{occurrences, rising}
-use Rattle.whole_walks.specs.declared.records.Walk.{Walk}
-use Rattle.whole_walks.specs.declared.records.Walk.the-variants.{Ones, Intersection, Difference, Union, SymmetricDifference}
+use Rattle.whole_walks.specs.declared.walk.Walk.{Walk}
+use Rattle.whole_walks.specs.declared.walk.Walk.the-variants.{Ones, Intersection, Difference, Union, SymmetricDifference}
 
 -- ---- how often
 

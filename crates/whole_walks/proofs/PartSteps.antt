@@ -8,8 +8,8 @@ use native.Mathlib.Nat.{add-sub-of-le}
 use native.Mathlib.Omega.{arith}
 use Rattle.word_bits.proofs.Ends.{below-no, below-yes, above-no, above-yes}
 use Rattle.word_bits.proofs.Order.{lt-or-le}
-use Rattle.queries.specs.declared.found.Position.{Position}
-use Rattle.queries.specs.declared.found.Position.the-variants.{At, Nothing}
+use Rattle.sets.specs.declared.found.Position.{Position}
+use Rattle.sets.specs.declared.found.Position.the-variants.{At, Nothing}
 use Rattle.parts.specs.Steps.{ahead, behind, front, back, step}
 use Rattle.parts.specs.declared.records.End.{End}
 use Rattle.parts.specs.declared.records.End.the-variants.{Front, Back}

@@ -10,8 +10,8 @@ use lib.ListN.{getD}
 use Rattle.word_bits.proofs.Order.{lt-or-le}
 use Rattle.sets.specs.Members.{Members}
 use Rattle.sets.specs.declared.fixed_bit_set.FixedBitSet.{FixedBitSet}
-use Rattle.queries.specs.declared.found.Position.{Position}
-use Rattle.queries.specs.declared.found.Position.the-variants.{At, Nothing}
+use Rattle.sets.specs.declared.found.Position.{Position}
+use Rattle.sets.specs.declared.found.Position.the-variants.{At, Nothing}
 use Rattle.parts.specs.Steps.{front, back, step}
 use Rattle.parts.specs.declared.records.End.{End}
 use Rattle.parts.specs.declared.records.End.the-variants.{Front, Back}
@@ -19,10 +19,10 @@ use Rattle.parts.specs.declared.records.Part.{Part}
 use Rattle.parts.specs.declared.records.Step.{Step}
 use Rattle.walks.specs.Rules.{partQuestion}
 use Rattle.walks.proofs.WalkLaws.{part-yes, part-inverted, part-within}
-use Rattle.two_part_walks.specs.Rules.{PairStep, orElse, without}
+use Rattle.walks.specs.Rules.{PairStep, orElse, without}
 use Rattle.whole_walks.specs.Walks.{onePart, walkStep, answersFrom}
-use Rattle.whole_walks.specs.declared.records.Walk.{Walk}
-use Rattle.whole_walks.specs.declared.records.Walk.the-variants.{Ones, Intersection, Difference, Union, SymmetricDifference}
+use Rattle.whole_walks.specs.declared.walk.Walk.{Walk}
+use Rattle.whole_walks.specs.declared.walk.Walk.the-variants.{Ones, Intersection, Difference, Union, SymmetricDifference}
 use Rattle.whole_walks.proofs.PartSteps.{Outcome, gives, lacks, step-outcome}
 
 -- ---- a step of a part

@@ -15,8 +15,8 @@ use Rattle.sets.specs.Outcomes.{given}
 use Rattle.sets.specs.Questions.{questions}
 use Rattle.sets.specs.declared.fixed_bit_set.FixedBitSet.{FixedBitSet}
 use Rattle.sets.proofs.QuestionLaws.{first-yes, valid-yes}
-use Rattle.range_counts.specs.RangeCounts.{onesIn}
-use Rattle.queries.specs.Rules.{rangeQuestions}
+use Rattle.tests.specs.Tests.{onesIn}
+use Rattle.tests.specs.Rules.{rangeQuestions}
 use Rattle.two_sets.specs.Rules.{bothQuestions}
 use Rattle.two_sets.proofs.SetJoins.{both-valid}
 use Rattle.two_set_counts.specs.Lists.{onesList}
@@ -25,14 +25,14 @@ use Rattle.parts.specs.declared.records.End.{End}
 use Rattle.parts.specs.declared.records.End.the-variants.{Front, Back}
 use Rattle.parts.specs.declared.records.Part.{Part}
 use Rattle.walks.specs.Rules.{partQuestion, oneQuestions}
-use Rattle.pair_walks.specs.Rules.{twoQuestions}
-use Rattle.walks.specs.declared.records.Stepped.{Stepped}
-use Rattle.two_part_walks.specs.Rules.{PairStep, pairQuestions}
-use Rattle.two_part_walks.specs.declared.records.SteppedPair.{SteppedPair}
+use Rattle.walks.specs.Rules.{twoQuestions}
+use Rattle.walks.specs.declared.answers.Stepped.{Stepped}
+use Rattle.walks.specs.Rules.{PairStep, pairQuestions}
+use Rattle.walks.specs.declared.answers.SteppedPair.{SteppedPair}
 use Rattle.whole_walks.specs.Walks.{walkList, walkStep}
 use Rattle.whole_walks.specs.Rules.{alone, walkStepRule, walkCountRule, answersQuestion}
-use Rattle.whole_walks.specs.declared.records.Walk.{Walk}
-use Rattle.whole_walks.specs.declared.records.Walk.the-variants.{Ones, Intersection, Difference, Union, SymmetricDifference}
+use Rattle.whole_walks.specs.declared.walk.Walk.{Walk}
+use Rattle.whole_walks.specs.declared.walk.Walk.the-variants.{Ones, Intersection, Difference, Union, SymmetricDifference}
 
 pub alone-of : {r : SteppedPair} {s t : Stepped} {two : Part} → r ≡ alone s two → s ≡ t → r ≡ alone t two
 alone-of {two = two} e f = e ∙ ap (λ (s : Stepped). alone s two) f

@@ -10,18 +10,18 @@ use lib.Dec.{eqb, eqb·suc-suc}
 use lib.ListN.{length, getD, take, length-append}
 use Rattle.sets.specs.Members.{Members, setOf}
 use Rattle.sets.proofs.WriteLaws.{Clipped}
-use Rattle.queries.specs.declared.found.Position.{Position}
-use Rattle.queries.specs.declared.found.Position.the-variants.{At, Nothing}
+use Rattle.sets.specs.declared.found.Position.{Position}
+use Rattle.sets.specs.declared.found.Position.the-variants.{At, Nothing}
 use Rattle.two_set_counts.specs.Lists.{onesList, intersectionList, differenceList}
 use Rattle.parts.specs.declared.records.End.{End}
 use Rattle.parts.specs.declared.records.End.the-variants.{Front, Back}
 use Rattle.parts.specs.declared.records.Part.{Part}
 use Rattle.walks.specs.Rules.{firstPart}
-use Rattle.two_part_walks.specs.Rules.{without}
+use Rattle.walks.specs.Rules.{without}
 use Rattle.whole_walks.specs.Walks.{walkList, firstList, secondList, walkStep, answersFrom, answers}
 use Rattle.whole_walks.specs.Walked.{position, isNothing, fronts, backs, given, rising, Walked}
-use Rattle.whole_walks.specs.declared.records.Walk.{Walk}
-use Rattle.whole_walks.specs.declared.records.Walk.the-variants.{Ones, Intersection, Difference, Union, SymmetricDifference}
+use Rattle.whole_walks.specs.declared.walk.Walk.{Walk}
+use Rattle.whole_walks.specs.declared.walk.Walk.the-variants.{Ones, Intersection, Difference, Union, SymmetricDifference}
 use Rattle.whole_walks.proofs.PartSteps.{Taken}
 use Rattle.whole_walks.proofs.WalkSteps.{remaining, remaining-first, walk-taken}
 use Rattle.whole_walks.proofs.Occurrences.{exact, rises}

@@ -9,22 +9,22 @@ use Rattle.sets.specs.Outcomes.{given}
 use Rattle.sets.specs.Questions.{first}
 use Rattle.sets.specs.declared.fixed_bit_set.FixedBitSet.{FixedBitSet}
 use Rattle.sets.specs.declared.answers.Counted.{Counted}
-use Rattle.range_counts.specs.Rules.{countOnesRule}
-use Rattle.queries.specs.declared.found.Position.{Position}
-use Rattle.queries.specs.declared.found.Position.the-variants.{At, Nothing}
+use Rattle.tests.specs.Rules.{countOnesRule}
+use Rattle.sets.specs.declared.found.Position.{Position}
+use Rattle.sets.specs.declared.found.Position.the-variants.{At, Nothing}
 use Rattle.two_sets.specs.Rules.{bothQuestions}
 use Rattle.two_set_counts.specs.Rules.{unionCountRule, intersectionCountRule, differenceCountRule, symmetricDifferenceCountRule}
 use Rattle.parts.specs.declared.records.End.{End}
 use Rattle.parts.specs.declared.records.End.the-variants.{Front, Back}
 use Rattle.parts.specs.declared.records.Part.{Part}
 use Rattle.walks.specs.Rules.{onesNextRule, onesNextBackRule}
-use Rattle.pair_walks.specs.Rules.{intersectionNextRule, intersectionNextBackRule, differenceNextRule, differenceNextBackRule}
-use Rattle.walks.specs.declared.records.Stepped.{Stepped}
-use Rattle.two_part_walks.specs.Rules.{unionNextRule, unionNextBackRule, symmetricDifferenceNextRule, symmetricDifferenceNextBackRule}
-use Rattle.two_part_walks.specs.declared.records.SteppedPair.{SteppedPair}
+use Rattle.walks.specs.Rules.{intersectionNextRule, intersectionNextBackRule, differenceNextRule, differenceNextBackRule}
+use Rattle.walks.specs.declared.answers.Stepped.{Stepped}
+use Rattle.walks.specs.Rules.{unionNextRule, unionNextBackRule, symmetricDifferenceNextRule, symmetricDifferenceNextBackRule}
+use Rattle.walks.specs.declared.answers.SteppedPair.{SteppedPair}
 use Rattle.whole_walks.specs.Walks.{walkList, answers}
-use Rattle.whole_walks.specs.declared.records.Walk.{Walk}
-use Rattle.whole_walks.specs.declared.records.Walk.the-variants.{Ones, Intersection, Difference, Union, SymmetricDifference}
+use Rattle.whole_walks.specs.declared.walk.Walk.{Walk}
+use Rattle.whole_walks.specs.declared.walk.Walk.the-variants.{Ones, Intersection, Difference, Union, SymmetricDifference}
 
 -- a step of a walk of one part hands the second record back
 abbrev pub alone : Stepped → Part → SteppedPair

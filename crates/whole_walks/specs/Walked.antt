@@ -7,12 +7,12 @@ use lib.Dec.{eqb, ltb}
 use lib.ListN.{length, getD, take}
 use Rattle.word_bits.specs.Digits.{one}
 use Rattle.sets.specs.Members.{Members}
-use Rattle.queries.specs.declared.found.Position.{Position}
-use Rattle.queries.specs.declared.found.Position.the-variants.{At, Nothing}
+use Rattle.sets.specs.declared.found.Position.{Position}
+use Rattle.sets.specs.declared.found.Position.the-variants.{At, Nothing}
 use Rattle.parts.specs.declared.records.End.{End}
 use Rattle.parts.specs.declared.records.End.the-variants.{Front, Back}
 use Rattle.whole_walks.specs.Walks.{walkList, firstList, secondList, wanted}
-use Rattle.whole_walks.specs.declared.records.Walk.{Walk}
+use Rattle.whole_walks.specs.declared.walk.Walk.{Walk}
 
 -- the position of an answer, where it has one
 abbrev pub position : Position → List ℕ

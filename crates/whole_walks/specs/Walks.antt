@@ -3,7 +3,7 @@ use mathlib.Core.Bool.{Bool, not, xor, _&&_, _||_}
 use mathlib.Core.List.{List, [], _∷_}
 use Prim.Native.Nat.{ℕ}
 use Rattle.sets.specs.Members.{Members, setOf}
-use Rattle.queries.specs.declared.found.Position.{Position}
+use Rattle.sets.specs.declared.found.Position.{Position}
 use Rattle.two_set_counts.specs.Lists.{onesList, intersectionList, differenceList, unionList, symmetricDifferenceList}
 use Rattle.parts.specs.Steps.{step}
 use Rattle.parts.specs.declared.records.End.{End}
@@ -11,9 +11,9 @@ use Rattle.parts.specs.declared.records.End.the-variants.{Front, Back}
 use Rattle.parts.specs.declared.records.Part.{Part}
 use Rattle.parts.specs.declared.records.Step.{Step}
 use Rattle.walks.specs.Rules.{firstPart}
-use Rattle.two_part_walks.specs.Rules.{PairStep, frontPair, backPair, without}
-use Rattle.whole_walks.specs.declared.records.Walk.{Walk}
-use Rattle.whole_walks.specs.declared.records.Walk.the-variants.{Ones, Intersection, Difference, Union, SymmetricDifference}
+use Rattle.walks.specs.Rules.{PairStep, frontPair, backPair, without}
+use Rattle.whole_walks.specs.declared.walk.Walk.{Walk}
+use Rattle.whole_walks.specs.declared.walk.Walk.the-variants.{Ones, Intersection, Difference, Union, SymmetricDifference}
 
 -- the walk's list
 abbrev pub walkList : Walk → Members → Members → List ℕ

@@ -1,10 +1,10 @@
 // The five walks that have steps at both ends, whole: their steps from the first records on, and their counts.
-mod records;
 mod steps;
+mod walk;
 mod walk_counts;
 mod whole;
 
-pub use records::Walk;
 pub use steps::walk_step;
+pub use walk::Walk;
 pub use walk_counts::walk_count;
 pub use whole::walk_whole;

@@ -1,10 +1,10 @@
-use crate::records::Walk;
 use crate::steps::walk_step;
+use crate::walk::Walk;
 use crate::walk_counts::walk_count;
 use parts::End;
-use queries::Position;
 use sets::Counted;
 use sets::FixedBitSet;
+use sets::Position;
 use two_sets::check_both;
 use walks::first_part;
 ghost use mathlib.Core.Path.{_≡_};

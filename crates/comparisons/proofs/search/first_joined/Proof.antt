@@ -3,8 +3,8 @@ use mathlib.Core.Path.{_≡_}
 use Prim.Native.Nat.{ℕ, _≤_, _<_, _-_}
 use denote.Ref.{now}
 use lib.ListN.{getD}
-use Rattle.queries.proofs.ScanLaws.{more}
-use Rattle.joins.specs.Operations.{maskedJoin}
+use Rattle.tests.proofs.ScanLaws.{more}
+use Rattle.blocks.specs.Operations.{maskedJoin}
 use borrow.Author.Needs.{needs}
 use native.Mathlib.Omega.{arith}
 use Rattle.comparisons.proofs.search.first_joined.Statement.{statement}

@@ -8,7 +8,7 @@ use Rattle.sets.specs.Questions.{questions}
 use Rattle.sets.proofs.OutcomeLaws.{given-no, given-yes}
 use Rattle.sets.proofs.QuestionLaws.{first-no, first-yes, valid, position-below}
 use Rattle.sets.proofs.ReadLaws.{changed-outcome}
-use Rattle.changes.specs.Changes.{changedWord}
+use Rattle.edits.specs.Changes.{changedWord}
 use Rattle.edits.proofs.PositionChanges.{position-write}
 use borrow.Author.Needs.{needs}
 use native.Mathlib.Omega.{arith}

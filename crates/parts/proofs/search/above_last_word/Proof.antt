@@ -7,7 +7,7 @@ use Rattle.word_bits.proofs.Order.{lt-or-le}
 use Rattle.masks.specs.Ranges.{endBlock}
 use Rattle.masks.specs.declared.range_masks.Masks.{Masks}
 use Rattle.parts.specs.Selections.{partWord, selectedAt}
-use Rattle.queries.proofs.ScanLaws.{less, descend-all, descend-at}
+use Rattle.tests.proofs.ScanLaws.{less, descend-all, descend-at}
 use Rattle.parts.proofs.WordSteps.{outside-word}
 use borrow.Author.Needs.{needs}
 use native.Mathlib.Omega.{arith}

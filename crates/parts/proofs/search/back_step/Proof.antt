@@ -6,7 +6,7 @@ use Rattle.word_bits.specs.Counts.{zerosAbove}
 use Rattle.word_bits.specs.Digits.{digit}
 use Rattle.masks.specs.Ranges.{endBlock}
 use Rattle.parts.specs.Selections.{partWord, selectedAt}
-use Rattle.queries.proofs.ScanLaws.{descend-after, descend-stop}
+use Rattle.tests.proofs.ScanLaws.{descend-after, descend-stop}
 use Rattle.parts.proofs.SelectLaws.{select-lt}
 use Rattle.parts.proofs.WordSteps.{back-none-words, back-at-word, highest-inside}
 use borrow.Author.Needs.{needs}

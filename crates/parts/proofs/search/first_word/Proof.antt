@@ -5,7 +5,7 @@ use denote.Ref.{now}
 use Rattle.masks.specs.Ranges.{endBlock}
 use Rattle.masks.specs.declared.range_masks.Masks.{Masks}
 use Rattle.parts.specs.Selections.{partWord}
-use Rattle.queries.proofs.ScanLaws.{more, scan-all, scan-at}
+use Rattle.tests.proofs.ScanLaws.{more, scan-all, scan-at}
 use Rattle.parts.proofs.WordSteps.{first-le-end}
 use borrow.Author.Needs.{needs}
 use native.Mathlib.Omega.{arith}

@@ -8,7 +8,7 @@ use Rattle.word_bits.specs.Digits.{digit}
 use Rattle.word_bits.proofs.Order.{lt-or-le}
 use Rattle.masks.specs.Ranges.{endBlock}
 use Rattle.parts.specs.Selections.{partWord, selectedAt}
-use Rattle.queries.proofs.ScanLaws.{scan-before, scan-stop}
+use Rattle.tests.proofs.ScanLaws.{scan-before, scan-stop}
 use Rattle.parts.proofs.SelectLaws.{select-lt}
 use Rattle.parts.proofs.WordSteps.{front-none-words, front-at-word, lowest-inside}
 use borrow.Author.Needs.{needs}

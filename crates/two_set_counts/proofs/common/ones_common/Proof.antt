@@ -1,6 +1,6 @@
 -- `two_set_counts::common::ones_common` meets its contract. Assumes nothing.
 use denote.Ref.{now}
-use Rattle.joins.proofs.WordJoins.{union-word, intersection-word, difference-word, symmetric-difference-word}
+use Rattle.blocks.proofs.WordJoins.{union-word, intersection-word, difference-word, symmetric-difference-word}
 use Rattle.two_set_counts.proofs.WordRows.{row-joined}
 use borrow.Author.Needs.{needs}
 use Rattle.two_set_counts.proofs.common.ones_common.Statement.{statement}

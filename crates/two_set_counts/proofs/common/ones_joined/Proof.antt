@@ -7,8 +7,8 @@ use lib.ListN.{getD}
 use Rattle.word_bits.specs.Counts.{count}
 use Rattle.word_bits.specs.Digits.{digit}
 use Rattle.word_bits.proofs.Ones.{count-le}
-use Rattle.joins.specs.Operations.{maskedJoin}
-use Rattle.two_set_counts.specs.Parts.{rowOf}
+use Rattle.blocks.specs.Operations.{maskedJoin}
+use Rattle.two_set_counts.specs.Helpers.{rowOf}
 use Rattle.two_set_counts.proofs.WordRows.{row-none, row-more}
 use borrow.Author.Needs.{needs}
 use native.Mathlib.Omega.{arith}

@@ -5,7 +5,7 @@ use denote.Ref.{now}
 use Rattle.sets.specs.Members.{read}
 use Rattle.two_sets.specs.Rules.{bothQuestions}
 use Rattle.sets.proofs.OutcomeLaws.{given-no, given-yes}
-use Rattle.two_set_counts.specs.Parts.{jointOnes}
+use Rattle.two_set_counts.specs.Helpers.{jointOnes}
 use Rattle.two_set_counts.proofs.JointLaws.{Common, common}
 use borrow.Author.Needs.{needs}
 use native.Mathlib.Omega.{arith}

@@ -3,7 +3,7 @@ use mathlib.Core.Path.{ap, _∙_}
 use Prim.Native.Nat.{ℕ}
 use denote.Ref.{now}
 use Rattle.sets.specs.declared.answers.Counted.{Counted}
-use Rattle.range_counts.specs.Rules.{countOnesRule}
+use Rattle.tests.specs.Rules.{countOnesRule}
 use Rattle.two_set_counts.proofs.RestLaws.{counted-from}
 use borrow.Author.Needs.{needs}
 use Rattle.two_set_counts.proofs.rests.ones_from.Statement.{statement}

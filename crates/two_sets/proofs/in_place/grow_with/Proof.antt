@@ -8,8 +8,8 @@ use Rattle.blocks.specs.Sweeps.{swept}
 use Rattle.sets.specs.Members.{wordsOf, read, setOf, empty}
 use Rattle.sets.specs.Questions.{newQuestions, roomQuestion}
 use Rattle.sets.specs.declared.fixed_bit_set.FixedBitSet.{FixedBitSet}
-use Rattle.two_sets.specs.Members.{combined}
-use Rattle.joins.specs.Operations.{joinedWord, padded}
+use Rattle.two_sets.specs.Combined.{combined}
+use Rattle.blocks.specs.Operations.{joinedWord, padded}
 use Rattle.two_sets.specs.Rules.{bothQuestions}
 use Rattle.sets.proofs.OutcomeLaws.{given-no, given-yes}
 use Rattle.sets.proofs.QuestionLaws.{first-no, first-yes, room, room-only}

@@ -5,8 +5,8 @@ use Prim.Native.Nat.{ℕ}
 use denote.Ref.{now}
 use Rattle.blocks.specs.Sweeps.{swept}
 use Rattle.sets.specs.Members.{read}
-use Rattle.two_sets.specs.Members.{combined}
-use Rattle.joins.specs.Operations.{joinedWord, padded}
+use Rattle.two_sets.specs.Combined.{combined}
+use Rattle.blocks.specs.Operations.{joinedWord, padded}
 use Rattle.two_sets.specs.Rules.{bothQuestions}
 use Rattle.sets.proofs.OutcomeLaws.{given-no, given-yes}
 use Rattle.two_sets.proofs.MemberJoins.{joined-write}

@@ -7,7 +7,7 @@ use borrow.Author.Needs.{needs}
 use Rattle.sets.specs.declared.fixed_bit_set.FixedBitSet.{FixedBitSet}
 use Rattle.parts.specs.declared.records.End.{End}
 use Rattle.parts.specs.declared.records.Part.{Part}
-use Rattle.walks.specs.declared.records.Stepped.{Stepped}
+use Rattle.walks.specs.declared.answers.Stepped.{Stepped}
 use Rattle.walkers.specs.Rules.{walkerRule}
 use Rattle.walkers.proofs.steps.step_from.Statement.{statement}
 use Rattle.walkers.proofs.steps.step_from.Tie as tie

@@ -44,9 +44,9 @@ use Rattle.parts.proofs.records.End.Laws as E′
 use Rattle.parts.specs.declared.records.Part.{Part}
 use Rattle.parts.proofs.records.Part as P
 use Rattle.parts.proofs.records.Part.Laws as P′
-use Rattle.walks.specs.declared.records.Stepped.{Stepped}
-use Rattle.walks.proofs.records.Stepped as S
-use Rattle.walks.proofs.records.Stepped.Laws as S′
+use Rattle.walks.specs.declared.answers.Stepped.{Stepped}
+use Rattle.walks.proofs.answers.Stepped as S
+use Rattle.walks.proofs.answers.Stepped.Laws as S′
 use Rattle.walkers.specs.Rules.{walkerRule, firstWalker, movedWalker}
 use Rattle.walkers.specs.declared.walker.Ones.{Ones}
 use Rattle.walkers.proofs.WalkerLaws.{lent, Words, B}

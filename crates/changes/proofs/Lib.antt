@@ -1,2 +1,0 @@
-pub mod WordChanges
-pub mod BlockChanges

@@ -1,0 +1,27 @@
+use sets::FixedBitSet;
+use sets::as_slice;
+use two_sets::check_both;
+ghost use mathlib.Core.Path.{_≡_};
+ghost use Rattle.two_sets.specs.Rules.{bothQuestions};
+ghost use Rattle.comparisons.specs.Rules.{longerRule};
+
+// The words of the longer set, as a part of its own slice: the second's for equal lengths.
+pub fn longer<'a>(a: FixedBitSet, words: &'a [u64], b: FixedBitSet, other: &'a [u64]) -> &'a [u64]
+    ensures { λ r. ⌜ now r ≡ longerRule a (now (words .entry)) b (now (other .entry)) ⌝ }
+{
+    if check_both(a, words, b, other) != 0 {
+        return &words[..0];
+    }
+    if b.length < a.length {
+        as_slice(a, words)
+    } else {
+        as_slice(b, other)
+    }
+}
+
+// The number of `longer` on the same inputs.
+pub fn longer_number(a: FixedBitSet, words: &[u64], b: FixedBitSet, other: &[u64]) -> u64
+    ensures { λ r. ⌜ r ≡ bothQuestions a (now (words .entry)) b (now (other .entry)) ⌝ }
+{
+    check_both(a, words, b, other)
+}

@@ -1,0 +1,29 @@
+-- `range_edits::set_range` meets its contract. Assumes nothing.
+use mathlib.Core.Path.{ap, _∙_}
+use mathlib.Core.Bool.{Bool}
+use denote.Ref.{now}
+use Rattle.masks.specs.Ranges.{covers}
+use Rattle.sets.specs.Members.{read, changed}
+use Rattle.edits.specs.Rules.{overRange}
+use borrow.Author.Needs.{needs}
+use Rattle.edits.proofs.ranges.set_range.Statement.{statement}
+use Rattle.edits.proofs.ranges.set_range.Tie as tie
+
+assigning-requires : tie.Need-assigning-requires
+assigning-requires c κs = search needs
+
+change-range-requires : tie.Need-change-range-requires
+change-range-requires c κs = search needs
+
+same-length : tie.Need-same-length
+same-length c = search needs
+
+returns : tie.Need-returns
+returns c =
+    let a = c .before .before .before .before .before .before .args in
+    let ws = now (a .words) in
+    c .before .before .change-range .ensures
+    ∙ ap (λ (f : Bool → Bool). overRange (a .set) (a .start) (a .end) ws (changed (covers (a .start) (a .end)) f (read ws (a .set)))) (c .before .before .before .assigning .ensures)
+
+pub set-range-spec : {M : Type 1} → statement M
+set-range-spec = tie.close (tie.spec assigning-requires change-range-requires same-length returns)

@@ -1,0 +1,27 @@
+use crate::change::Change;
+use crate::change::change_block;
+use crate::change::change_whole;
+use masks::Masks;
+ghost use mathlib.Core.Path.{_≡_};
+ghost use Prim.Native.Nat.{ℕ};
+ghost use lib.ListN.{length};
+ghost use Rattle.masks.specs.RangeMasks.{rangeMask};
+ghost use Rattle.blocks.specs.Sweeps.{swept};
+ghost use Rattle.edits.specs.Changes.{changedWord};
+
+// The first word that the range meets with its mask, the whole words between, and the last word with its mask.
+pub fn change_covered(words: &mut [u64], start: usize, end: usize, change: Change)
+    ensures { λ r. ⌜ now (words .exit) ≡ swept 0 (length (now (words .entry))) (λ (k w : ℕ). changedWord change (rangeMask start end k) w) (now (words .entry)) ⌝ }
+{
+    let masks = Masks::new(start, end);
+    let first = masks.first_block;
+    let end_block = masks.end_block;
+    if first < end_block {
+        change_block(words, first, masks.first_mask, change);
+        let last = end_block - 1;
+        if first < last {
+            change_whole(words, first + 1, last, change);
+            change_block(words, last, masks.last_mask, change);
+        }
+    }
+}

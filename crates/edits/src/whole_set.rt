@@ -1,0 +1,63 @@
+use crate::change::Change;
+use crate::change::change_block;
+use blocks::change_blocks;
+use blocks::larger;
+use sets::Edited;
+use sets::FixedBitSet;
+use sets::ask_new;
+use sets::blocks_of;
+use sets::check;
+ghost use mathlib.Core.Path.{_≡_};
+ghost use Rattle.sets.specs.Outcomes.{outcome};
+ghost use Rattle.edits.specs.Rules.{clearRule, growRule, growAndInsertRule};
+
+pub fn clear(set: FixedBitSet, words: &mut [u64]) -> Edited
+    ensures { λ r. ⌜ outcome r (now (words .exit)) ≡ clearRule set (now (words .entry)) ⌝ }
+{
+    let number = check(set, words);
+    if number != 0 {
+        return Edited { number, set };
+    }
+    change_blocks(words, 0, blocks_of(set.length), 0, 0);
+    Edited { number: 0, set }
+}
+
+// The words that the longer set takes in are overwritten, whatever the caller had there.
+pub fn grow(set: FixedBitSet, words: &mut [u64], bits: usize) -> Edited
+    ensures { λ r. ⌜ outcome r (now (words .exit)) ≡ growRule set bits (now (words .entry)) ⌝ }
+{
+    let number = check(set, words);
+    if number != 0 {
+        return Edited { number, set };
+    }
+    let length = larger(set.length, bits);
+    let number = ask_new(length, words);
+    if number != 0 {
+        return Edited { number, set };
+    }
+    change_blocks(words, blocks_of(set.length), blocks_of(length), 0, 0);
+    Edited {
+        number: 0,
+        set: FixedBitSet::new(length),
+    }
+}
+
+pub fn grow_and_insert(set: FixedBitSet, words: &mut [u64], bit: usize) -> Edited
+    ensures { λ r. ⌜ outcome r (now (words .exit)) ≡ growAndInsertRule set bit (now (words .entry)) ⌝ }
+{
+    if 65536 <= bit {
+        let number = check(set, words);
+        if number != 0 {
+            return Edited { number, set };
+        }
+        return Edited { number: 6, set };
+    }
+    let grown = grow(set, words, bit + 1);
+    let number = grown.number;
+    if number != 0 {
+        return grown;
+    }
+    let rem = bit % 64;
+    change_block(words, bit / 64, 1 << rem, Change::Insert);
+    grown
+}

@@ -1,2 +1,0 @@
-pub mod GrowthLaws
-mod Examples

@@ -1,2 +1,0 @@
-pub mod WordJoins
-pub mod BlockJoins

@@ -1,3 +1,0 @@
-pub mod EqualLaws
-pub mod OrderLaws
-mod Examples

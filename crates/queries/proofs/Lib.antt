@@ -1,4 +1,0 @@
-pub mod RowLaws
-pub mod ScanLaws
-pub mod PartLaws
-pub mod AskLaws

@@ -1,2 +1,0 @@
-pub mod RangeCounts
-pub mod Rules

@@ -1,0 +1,9 @@
+pub mod RowLaws
+pub mod ScanLaws
+pub mod PartLaws
+pub mod AskLaws
+pub mod TestLaws
+pub mod RangeTestLaws
+pub mod RunLaws
+pub mod CountLaws
+pub mod ExtremeLaws

@@ -1,0 +1,3 @@
+pub mod Rules
+pub mod Helpers
+pub mod Tests

@@ -1,1 +1,0 @@
--- No laws of its own.

@@ -1,0 +1,33 @@
+-- Definitions that only the helpers' contracts use.
+use mathlib.Core.Bool.{Bool, true, false, cond}
+use mathlib.Core.List.{List}
+use Prim.Native.Nat.{ℕ, _+_, _-_, _/_, _%_, max}
+use Rattle.word_bits.specs.Counts.{count}
+use Rattle.word_bits.specs.Digits.{digit}
+use Rattle.sets.specs.Members.{Members, read}
+use Rattle.sets.specs.Outcomes.{counted}
+use Rattle.sets.specs.declared.fixed_bit_set.FixedBitSet.{FixedBitSet}
+use Rattle.sets.specs.declared.answers.Counted.{Counted}
+use Rattle.blocks.specs.Operations.{joined}
+use Rattle.two_sets.specs.Rules.{bothQuestions}
+use Rattle.blocks.specs.declared.operation.Operation.{Operation}
+
+-- the bits of the words f 0, f 1 and so on
+unfoldable pub rowOf : (ℕ → ℕ) → ℕ → Bool
+rowOf f p = digit (f (p / 64)) (p % 64)
+
+-- how many members two joined sets have
+abbrev pub jointOnes : Operation → Members → Members → ℕ
+jointOnes op s o = count (max (s .len) (o .len)) (λ p. joined op (s .has p) (o .has p))
+
+-- the number of the questions first
+abbrev pub jointCountRule : Operation → FixedBitSet → List ℕ → FixedBitSet → List ℕ → Counted
+jointCountRule op a ws b vs = counted (bothQuestions a ws b vs) (jointOnes op (read ws a) (read vs b))
+
+-- how many members are at `start` or above it
+abbrev pub onesFrom : ℕ → Members → ℕ
+onesFrom start s = count (s .len - start) (λ j. s .has (start + j))
+
+-- those that the operation takes: of the first set where the second has none, of the second where the first has none
+abbrev pub onesBeyond : Operation → ℕ → Members → Members → ℕ
+onesBeyond op start s o = cond (joined op true false) (onesFrom start s) 0 + cond (joined op false true) (onesFrom start o) 0

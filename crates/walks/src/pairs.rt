@@ -1,0 +1,112 @@
+use crate::answers::Stepped;
+use crate::questions::ask_part;
+use parts::End;
+use parts::Part;
+use parts::Selection;
+use parts::step_selected;
+use sets::FixedBitSet;
+use sets::Position;
+use sets::as_slice;
+use two_sets::check_both;
+ghost use mathlib.Core.Path.{_≡_};
+ghost use Prim.Native.Nat.{ℕ};
+ghost use Rattle.sets.specs.Members.{read};
+ghost use Rattle.parts.specs.Selections.{selected};
+ghost use Rattle.parts.specs.Steps.{step};
+ghost use Rattle.walks.specs.Rules.{stepped};
+ghost use Rattle.walks.specs.Rules.{twoQuestions, intersectionNextRule, intersectionNextBackRule, differenceNextRule, differenceNextBackRule};
+
+fn ask_two(a: FixedBitSet, words: &[u64], b: FixedBitSet, other: &[u64], part: Part) -> u64
+    ensures { λ r. ⌜ r ≡ twoQuestions a (now (words .entry)) b (now (other .entry)) part ⌝ }
+{
+    let number = check_both(a, words, b, other);
+    if number != 0 {
+        return number;
+    }
+    ask_part(a, part)
+}
+
+fn pair_step(
+    a: FixedBitSet,
+    words: &[u64],
+    b: FixedBitSet,
+    other: &[u64],
+    part: Part,
+    selection: Selection,
+    end: End,
+) -> Stepped
+    ensures { λ r. ⌜ r ≡ stepped (twoQuestions a (now (words .entry)) b (now (other .entry)) part) part (step end (λ (p : ℕ). selected selection (read (now (words .entry)) a .has p) (read (now (other .entry)) b .has p)) part) ⌝ }
+{
+    let number = ask_two(a, words, b, other, part);
+    if number != 0 {
+        return Stepped {
+            number,
+            at: Position::Nothing,
+            part,
+        };
+    }
+    let taken = step_selected(words, as_slice(b, other), part, selection, end);
+    let at = taken.at;
+    let left = taken.part;
+    Stepped {
+        number: 0,
+        at,
+        part: left,
+    }
+}
+
+pub fn intersection_next(
+    a: FixedBitSet,
+    words: &[u64],
+    b: FixedBitSet,
+    other: &[u64],
+    part: Part,
+) -> Stepped
+    ensures { λ r. ⌜ r ≡ intersectionNextRule a (now (words .entry)) b (now (other .entry)) part ⌝ }
+{
+    pair_step(
+        a,
+        words,
+        b,
+        other,
+        part,
+        Selection::Intersection,
+        End::Front,
+    )
+}
+
+pub fn intersection_next_back(
+    a: FixedBitSet,
+    words: &[u64],
+    b: FixedBitSet,
+    other: &[u64],
+    part: Part,
+) -> Stepped
+    ensures { λ r. ⌜ r ≡ intersectionNextBackRule a (now (words .entry)) b (now (other .entry)) part ⌝ }
+{
+    pair_step(a, words, b, other, part, Selection::Intersection, End::Back)
+}
+
+pub fn difference_next(
+    a: FixedBitSet,
+    words: &[u64],
+    b: FixedBitSet,
+    other: &[u64],
+    part: Part,
+) -> Stepped
+    ensures { λ r. ⌜ r ≡ differenceNextRule a (now (words .entry)) b (now (other .entry)) part ⌝ }
+{
+    pair_step(a, words, b, other, part, Selection::Difference, End::Front)
+}
+
+pub fn difference_next_back(
+    a: FixedBitSet,
+    words: &[u64],
+    b: FixedBitSet,
+    other: &[u64],
+    part: Part,
+) -> Stepped
+    ensures { λ r. ⌜ r ≡ differenceNextBackRule a (now (words .entry)) b (now (other .entry)) part ⌝ }
+{
+    pair_step(a, words, b, other, part, Selection::Difference, End::Back)
+}
