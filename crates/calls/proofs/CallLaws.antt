@@ -5,11 +5,10 @@ use Prim.Native.Nat.{ℕ, zero, suc, _<_, _^_}
 use lib.ListN.{length, getD}
 use Rattle.sets.specs.Members.{Members, read, write, setOf}
 use Rattle.sets.specs.Outcomes.{Outcome, given, edited}
-use Rattle.sets.specs.Questions.{first, questions}
+use Rattle.sets.specs.Questions.{first, questions, bothQuestions}
 use Rattle.sets.specs.declared.fixed_bit_set.FixedBitSet.{FixedBitSet}
 use Rattle.sets.proofs.QuestionLaws.{first-yes, Valid, valid-yes}
 use Rattle.sets.proofs.ReadLaws.{write-read}
-use Rattle.two_sets.specs.Rules.{bothQuestions}
 use Rattle.calls.specs.Calls.{Call, Insert, Remove, Put, Toggle, Set, CopyBit, InsertRange, RemoveRange, ToggleRange, SetRange, Clear, Grow, GrowAndInsert, UnionWith, IntersectWith, DifferenceWith, SymmetricDifferenceWith, refusal, done, leaves}
 use Rattle.calls.specs.Rules.{callRule}
 
@@ -25,7 +24,7 @@ module _ (set : FixedBitSet) (ws : List ℕ) (o : FixedBitSet) (vs : List ℕ) (
   unfolding bothQuestions
   both = sym (first-yes one (sym two))
 
-  rule-by : (call : Call) → callRule call set ws o vs ≡ by call
+  rule-by : (call : Call) → callRule set ws o vs call ≡ by call
   unfolding read
   rule-by (Insert bit) = past one _ _
   rule-by (Remove bit) = past one _ _
@@ -56,7 +55,7 @@ edited-holds zero set ws s e = record { set = refl; words = refl }
 edited-holds (suc n) set ws s e = record { set = refl; words = sym e }
 
 pub call-holds : (call : Call) (set : FixedBitSet) (ws : List ℕ) (o : FixedBitSet) (vs : List ℕ) → Valid set ws → Valid o vs → ((k : ℕ) → getD ws k 0 < 2 ^ 64)
-    → Holds (callRule call set ws o vs) ws (leaves call (length ws) (read ws set) (read vs o))
+    → Holds (callRule set ws o vs call) ws (leaves call (length ws) (read ws set) (read vs o))
 unfolding leaves
 call-holds call set ws o vs v w fit =
     rw (rule-by set ws o vs (valid-yes set ws v) (valid-yes o vs w) call)

@@ -12,11 +12,11 @@ use Rattle.sets.proofs.QuestionLaws.{Valid, valid-yes, first-yes}
 use Rattle.sets.proofs.ReadLaws.{write-read, write-valid}
 use Rattle.sets.proofs.WordLaws.{words-mono}
 use Rattle.sets.proofs.WriteLaws.{read-write, write-write, length-write}
-use Rattle.two_sets.specs.Rules.{bothQuestions}
+use Rattle.sets.specs.Questions.{bothQuestions}
 use Rattle.calls.specs.Calls.{Call}
 use Rattle.calls.specs.History.{State, Called, OnA, OnB, history}
 use Rattle.calls.specs.Encoding.{called}
-use Rattle.calls.specs.Rules.{ReplayOutcome, decodedRule, left}
+use Rattle.calls.specs.Rules.{ReplayOutcome, decodedRule, stored}
 use Rattle.calls.proofs.SoundLaws.{Sound, Kept, same-kept, sound-read, leaves-kept}
 use Rattle.calls.proofs.CallLaws.{Holds, call-holds}
 
@@ -58,22 +58,22 @@ module _ (a : FixedBitSet) (ws : List ℕ) (b : FixedBitSet) (vs : List ℕ) (va
 
   module _ (fa : (k : ℕ) → getD ws k 0 < 2 ^ 64) (fb : (k : ℕ) → getD vs k 0 < 2 ^ 64) where
     pub no-call : _≡_ {A = ReplayOutcome} (record { number = 0; a = a; words = ws; b = b; other = vs })
-        (left ws vs (history (length ws) (length vs) [] held))
+        (stored ws vs (history (length ws) (length vs) [] held))
     unfolding history
     no-call = rw (write-read a ws va fa, write-read b vs vb fb, ← set-read a ws, ← set-read b vs) refl
 
-    pub on-a : (call : Option Call) {x : Outcome} → x ≡ decodedRule call a ws b vs
+    pub on-a : (call : Option Call) {x : Outcome} → x ≡ decodedRule a ws b vs call
         → _≡_ {A = ReplayOutcome} (record { number = 0; a = x .set; words = x .words; b = b; other = vs })
-        (left ws vs (history (length ws) (length vs) (called OnA call) held))
+        (stored ws vs (history (length ws) (length vs) (called OnA call) held))
     unfolding history
     on-a none e = rw e no-call
     on-a (some call) e =
         let h = call-holds call a ws b vs va vb fa in
         rw (e, h .set, h .words, write-read b vs vb fb, ← set-read b vs) refl
 
-    pub on-b : (call : Option Call) {x : Outcome} → x ≡ decodedRule call b vs a ws
+    pub on-b : (call : Option Call) {x : Outcome} → x ≡ decodedRule b vs a ws call
         → _≡_ {A = ReplayOutcome} (record { number = 0; a = a; words = ws; b = x .set; other = x .words })
-        (left ws vs (history (length ws) (length vs) (called OnB call) held))
+        (stored ws vs (history (length ws) (length vs) (called OnB call) held))
     unfolding history
     on-b none e = rw e no-call
     on-b (some call) e =
@@ -88,17 +88,17 @@ module _ (a : FixedBitSet) (ws : List ℕ) (b : FixedBitSet) (vs : List ℕ) (va
     kept : Keeps (length ws) (length vs) held then
     kept = history-kept (length ws) (length vs) calls held (sound-read a ws va) (sound-read b vs vb)
 
-    pub left-sound : {x : ReplayOutcome} → x ≡ left ws vs then → bothQuestions (x .a) (x .words) (x .b) (x .other) ≡ 0
+    pub left-sound : {x : ReplayOutcome} → x ≡ stored ws vs then → bothQuestions (x .a) (x .words) (x .b) (x .other) ≡ 0
     unfolding bothQuestions
     left-sound e =
         rw e
         (sym (first-yes (valid-yes _ _ (write-valid ws (then .a) (kept .a .sound .clipped) (kept .a .sound .small) (kept .a .sound .enough)))
         (sym (valid-yes _ _ (write-valid vs (then .b) (kept .b .sound .clipped) (kept .b .sound .small) (kept .b .sound .enough))))))
 
-    pub left-sizes : {x : ReplayOutcome} → x ≡ left ws vs then → (length (x .words) ≡ length ws) × (length (x .other) ≡ length vs)
+    pub left-sizes : {x : ReplayOutcome} → x ≡ stored ws vs then → (length (x .words) ≡ length ws) × (length (x .other) ≡ length vs)
     left-sizes e = rw e (length-write ws (then .a) (kept .a .sound .enough), length-write vs (then .b) (kept .b .sound .enough))
 
-    left-left : (rest : List Called) → left (write ws (then .a)) (write vs (then .b)) (history (length ws) (length vs) rest then) ≡ left ws vs (history (length ws) (length vs) rest then)
+    left-left : (rest : List Called) → stored (write ws (then .a)) (write vs (then .b)) (history (length ws) (length vs) rest then) ≡ stored ws vs (history (length ws) (length vs) rest then)
     left-left rest =
         let k = history-kept (length ws) (length vs) rest then (kept .a .sound) (kept .b .sound) in
         rw (
@@ -106,9 +106,9 @@ module _ (a : FixedBitSet) (ws : List ℕ) (b : FixedBitSet) (vs : List ℕ) (va
           write-write vs (then .b) (history (length ws) (length vs) rest then .b) (words-mono (k .b .longer)) (k .b .sound .enough),
         ) refl
 
-    pub left-then : (rest : List Called) {x : ReplayOutcome} → x ≡ left ws vs then
-        → left (x .words) (x .other) (history (length (x .words)) (length (x .other)) rest (record { a = read (x .words) (x .a); b = read (x .other) (x .b) }))
-        ≡ left ws vs (history (length ws) (length vs) (calls ++ rest) held)
+    pub left-then : (rest : List Called) {x : ReplayOutcome} → x ≡ stored ws vs then
+        → stored (x .words) (x .other) (history (length (x .words)) (length (x .other)) rest (record { a = read (x .words) (x .a); b = read (x .other) (x .b) }))
+        ≡ stored ws vs (history (length ws) (length vs) (calls ++ rest) held)
     left-then rest e =
         rw (
           left-sizes e .0,

@@ -7,17 +7,17 @@ use lib.ListN.{length, getD, drop}
 use Rattle.sets.specs.Members.{read}
 use Rattle.sets.specs.declared.fixed_bit_set.FixedBitSet.{FixedBitSet}
 use Rattle.sets.proofs.WriteLaws.{write-fits}
-use Rattle.two_sets.specs.Rules.{bothQuestions}
-use Rattle.two_sets.proofs.SetJoins.{both-valid}
+use Rattle.sets.specs.Questions.{bothQuestions}
+use Rattle.sets.proofs.QuestionLaws.{both-valid}
 use Rattle.calls.specs.History.{State, Called, history}
 use Rattle.calls.specs.Encoding.{decodeOne, decodeAll}
-use Rattle.calls.specs.Rules.{ReplayOutcome, left}
+use Rattle.calls.specs.Rules.{ReplayOutcome, stored}
 use Rattle.calls.proofs.EncodingLaws.{decode-at, decode-end}
 use Rattle.calls.proofs.HistoryLaws.{no-call, left-sound, left-sizes, left-then}
 
 -- what some calls leave of two sets
 abbrev pub ran : List Called → FixedBitSet → List ℕ → FixedBitSet → List ℕ → ReplayOutcome
-ran calls a ws b vs = left ws vs (history (length ws) (length vs) calls (record { a = read ws a; b = read vs b }))
+ran calls a ws b vs = stored ws vs (history (length ws) (length vs) calls (record { a = read ws a; b = read vs b }))
 
 pub record Replaying (calls : List ℕ) (result : ReplayOutcome) (a : FixedBitSet) (ws : List ℕ) (b : FixedBitSet) (vs : List ℕ) (m n at : ℕ) : Type 0 where
   pub sound : bothQuestions a ws b vs ≡ 0

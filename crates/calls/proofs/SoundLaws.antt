@@ -8,11 +8,12 @@ use native.Mathlib.Omega.{arith}
 use borrow.Author.Tests.{ne-eqb}
 use lib.Dec.{eqb}
 use lib.ListN.{length}
-use Rattle.masks.specs.Ranges.{covers, rangeQuestion}
-use Rattle.masks.proofs.RangeLaws.{covers-above, within}
+use Rattle.masks.specs.Ranges.{covers}
+use Rattle.sets.proofs.RangeQuestionLaws.{within}
+use Rattle.masks.proofs.RangeLaws.{covers-above}
 use Rattle.sets.specs.Members.{Members, wordsOf, read, setOf, changed}
 use Rattle.sets.specs.Outcomes.{given}
-use Rattle.sets.specs.Questions.{positionQuestion, newQuestions, roomQuestion}
+use Rattle.sets.specs.Questions.{positionQuestion, newQuestions, roomQuestion, rangeQuestion}
 use Rattle.sets.specs.declared.fixed_bit_set.FixedBitSet.{FixedBitSet}
 use Rattle.sets.proofs.QuestionLaws.{Valid, position-yes, position-below, room, room-only}
 use Rattle.sets.proofs.ReadLaws.{read-clipped}

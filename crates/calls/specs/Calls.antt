@@ -1,10 +1,9 @@
 -- The calls of a history: which are refused, and what an accepted one leaves, position by position.
 use mathlib.Core.Bool.{Bool}
 use Prim.Native.Nat.{ℕ, _+_, max}
-use Rattle.masks.specs.Ranges.{rangeQuestion}
 use Rattle.sets.specs.Members.{Members, setOf}
 use Rattle.sets.specs.Outcomes.{given}
-use Rattle.sets.specs.Questions.{positionQuestion, newQuestions, roomQuestion}
+use Rattle.sets.specs.Questions.{positionQuestion, newQuestions, roomQuestion, rangeQuestion}
 use Rattle.edits.specs.Edits.{inserted, removed, toggled, assigned, copied, insertedRange, removedRange, toggledRange, assignedRange, cleared, grown, grownAndInserted}
 use Rattle.two_sets.specs.Combined.{unioned, symmetricallyDiffered, intersected, differed}
 

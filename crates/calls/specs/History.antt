@@ -10,8 +10,8 @@ pub record State : Type 0 where
   pub b : Members
 
 -- two fresh sets
-abbrev pub fresh : ℕ → ℕ → State
-fresh m n = record { a = empty m; b = empty n }
+abbrev pub freshSets : ℕ → ℕ → State
+freshSets m n = record { a = empty m; b = empty n }
 
 -- a call on A, or on B, with the other read
 pub data Called : Type 0 where

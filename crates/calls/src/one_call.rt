@@ -24,7 +24,7 @@ ghost use Rattle.calls.specs.Encoding.{decode};
 ghost use Rattle.calls.specs.Rules.{decodedRule};
 
 fn put_only(target: FixedBitSet, words: &mut [u64], bit: usize) -> Edited
-    ensures { λ r. ⌜ outcome r (now (words .exit)) ≡ putRule target bit (now (words .entry)) .edit ⌝ }
+    ensures { λ r. ⌜ outcome r (now (words .exit)) ≡ putRule target (now (words .entry)) bit .edit ⌝ }
 {
     let replaced = put(target, words, bit);
     let after = replaced.set;
@@ -45,7 +45,7 @@ pub(crate) fn make_call(
     y: usize,
     z: bool,
 ) -> Edited
-    ensures { λ r. ⌜ outcome r (now (words .exit)) ≡ decodedRule (decode code x y z) target (now (words .entry)) read (now (other .entry)) ⌝ }
+    ensures { λ r. ⌜ outcome r (now (words .exit)) ≡ decodedRule target (now (words .entry)) read (now (other .entry)) (decode code x y z) ⌝ }
 {
     match code {
         0 => insert(target, words, x),

@@ -1,14 +1,14 @@
 use crate::one_call::make_call;
 use crate::replayed::Replayed;
 use sets::FixedBitSet;
-use two_sets::check_both;
+use sets::check_both;
 ghost use mathlib.Core.Path.{_≡_};
 ghost use lib.ListN.{length, drop};
 ghost use Rattle.sets.specs.Members.{read};
-ghost use Rattle.two_sets.specs.Rules.{bothQuestions};
+ghost use Rattle.sets.specs.Questions.{bothQuestions};
 ghost use Rattle.calls.specs.History.{State, history};
 ghost use Rattle.calls.specs.Encoding.{decodeAll, decodeOne};
-ghost use Rattle.calls.specs.Rules.{replayOutcome, left, replayRule};
+ghost use Rattle.calls.specs.Rules.{replayOutcome, replayRule, stored};
 
 // Five numbers: the set, the call, two numbers and a yes or no.
 fn replay_one(
@@ -23,7 +23,7 @@ fn replay_one(
     z: u64,
 ) -> Replayed
     requires { ⌜ bothQuestions a (now words) b (now other) ≡ 0 ⌝ }
-    ensures { λ r. ⌜ replayOutcome r (now (words .exit)) (now (other .exit)) ≡ left (now (words .entry)) (now (other .entry)) (history (length (now (words .entry))) (length (now (other .entry))) (decodeOne on code x y z) (record { a = read (now (words .entry)) a; b = read (now (other .entry)) b })) ⌝ }
+    ensures { λ r. ⌜ replayOutcome r (now (words .exit)) (now (other .exit)) ≡ stored (now (words .entry)) (now (other .entry)) (history (length (now (words .entry))) (length (now (other .entry))) (decodeOne on code x y z) (record { a = read (now (words .entry)) a; b = read (now (other .entry)) b })) ⌝ }
 {
     if on == 0 {
         let edited = make_call(a, words, b, other, code, x, y, z != 0);
@@ -55,7 +55,7 @@ fn replay_all(
     calls: &[u64],
 ) -> Replayed
     requires { ⌜ bothQuestions a (now words) b (now other) ≡ 0 ⌝ }
-    ensures { λ r. ⌜ replayOutcome r (now (words .exit)) (now (other .exit)) ≡ left (now (words .entry)) (now (other .entry)) (history (length (now (words .entry))) (length (now (other .entry))) (decodeAll (now (calls .entry))) (record { a = read (now (words .entry)) a; b = read (now (other .entry)) b })) ⌝ }
+    ensures { λ r. ⌜ replayOutcome r (now (words .exit)) (now (other .exit)) ≡ stored (now (words .entry)) (now (other .entry)) (history (length (now (words .entry))) (length (now (other .entry))) (decodeAll (now (calls .entry))) (record { a = read (now (words .entry)) a; b = read (now (other .entry)) b })) ⌝ }
 {
     let mut first = a;
     let mut second = b;
@@ -85,7 +85,7 @@ fn replay_all(
     }
 }
 
-// The calls of a list of numbers, five for each call, one after the other; each gets what the ones before it left.
+// The calls of a list of numbers, five for each call, one after the other; each gets what the ones before it stored.
 pub fn replay(
     a: FixedBitSet,
     words: &mut [u64],

@@ -5,12 +5,11 @@ use Prim.Native.Nat.{ℕ}
 use Rattle.word_bits.specs.Counts.{count, some, all, zerosBelow, zerosAbove}
 use Rattle.word_bits.specs.Digits.{digit, number, wordOf}
 use Rattle.word_bits.specs.LastBit.{unset}
-use Rattle.masks.specs.Ranges.{covers, rangeQuestion}
+use Rattle.masks.specs.Ranges.{covers}
 use Rattle.sets.specs.Members.{wordsOf, bitOf, read, write, changed}
 use Rattle.sets.specs.Outcomes.{given}
-use Rattle.sets.specs.Questions.{lengthQuestion, wordsQuestion, strayQuestion, questions, positionQuestion, roomQuestion}
+use Rattle.sets.specs.Questions.{lengthQuestion, wordsQuestion, strayQuestion, questions, positionQuestion, roomQuestion, rangeQuestion, bothQuestions}
 use Rattle.two_sets.specs.Combined.{combined}
-use Rattle.two_sets.specs.Rules.{bothQuestions}
 use Rattle.two_set_counts.specs.Lists.{positions}
 use Rattle.parts.specs.Steps.{front, back}
 use Rattle.whole_walks.specs.Walks.{answersFrom}

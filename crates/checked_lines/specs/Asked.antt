@@ -13,7 +13,7 @@ use Rattle.sets.specs.declared.answers.Counted.{Counted}
 use Rattle.sets.specs.declared.answers.Told.{Told}
 use Rattle.edits.specs.Rules.{insertRule, copyBitRule}
 use Rattle.edits.specs.Rules.{insertRangeRule}
-use Rattle.sets.specs.declared.found.Found.{Found}
+use Rattle.sets.specs.declared.answers.Found.{Found}
 use Rattle.tests.specs.Rules.{isFullRule, isClearRule}
 use Rattle.tests.specs.Rules.{countOnesRule}
 use Rattle.tests.specs.Rules.{minimumRule}
@@ -66,11 +66,11 @@ abbrev pub answer : Asked → List ℕ
 answer (IsFull set ws) = toldNumbers (isFullRule set ws)
 answer (IsClear set ws) = toldNumbers (isClearRule set ws)
 answer (Minimum set ws) = foundNumbers (minimumRule set ws)
-answer (Insert set ws bit) = editNumbers (insertRule set bit ws)
-answer (CopyBit set ws from to) = editNumbers (copyBitRule set from to ws)
-answer (InsertRange set ws start end) = editNumbers (insertRangeRule set start end ws)
-answer (CountOnes set ws start end) = countNumbers (countOnesRule set start end ws)
+answer (Insert set ws bit) = editNumbers (insertRule set ws bit)
+answer (CopyBit set ws from to) = editNumbers (copyBitRule set ws from to)
+answer (InsertRange set ws start end) = editNumbers (insertRangeRule set ws start end)
+answer (CountOnes set ws start end) = countNumbers (countOnesRule set ws start end)
 answer (UnionWith a ws b vs) = editNumbers (unionWithRule a ws b vs)
 answer (LastBitOf word) = lastBitNumbers (lastBitRule word)
 answer (Listed walk a ws b vs) = walkList walk (read ws a) (read vs b)
-answer (Steps walk a ws b vs steps) = walkNumbers (walkRule walk a ws b vs steps (replicate (length steps) 0))
+answer (Steps walk a ws b vs steps) = walkNumbers (walkRule a ws b vs walk steps (replicate (length steps) 0))

@@ -5,8 +5,7 @@ use Rattle.word_bits.specs.Counts.{some}
 use Rattle.word_bits.specs.Digits.{digit, number, wordOf}
 use Rattle.sets.specs.Members.{wordsOf, bitOf, read}
 use Rattle.sets.specs.Outcomes.{given}
-use Rattle.sets.specs.Questions.{questions, lengthQuestion, wordsQuestion, strayQuestion}
-use Rattle.two_sets.specs.Rules.{bothQuestions}
+use Rattle.sets.specs.Questions.{questions, lengthQuestion, wordsQuestion, strayQuestion, bothQuestions}
 use Rattle.comparisons.specs.Orders.{wordsOrder}
 use Rattle.comparisons.specs.Rules.{cmpRule}
 

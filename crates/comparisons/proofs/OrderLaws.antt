@@ -13,12 +13,11 @@ use Rattle.word_bits.proofs.Digits.{digit-of-zero, digits-ext, number-ext, word
 use Rattle.word_bits.proofs.Order.{lt-or-le}
 use Rattle.sets.specs.Members.{wordsOf, bitOf, read}
 use Rattle.sets.specs.declared.fixed_bit_set.FixedBitSet.{FixedBitSet}
-use Rattle.sets.proofs.QuestionLaws.{Valid}
+use Rattle.sets.proofs.QuestionLaws.{Valid, BothValid}
 use Rattle.sets.proofs.ReadLaws.{read-bit}
 use Rattle.sets.proofs.WordLaws.{bit-at, within-words}
 use Rattle.blocks.specs.Operations.{joinedWord}
 use Rattle.blocks.specs.declared.operation.Operation.the-variants.{SymmetricDifference}
-use Rattle.two_sets.proofs.SetJoins.{BothValid}
 use Rattle.blocks.proofs.WordJoins.{joined-digit, joined-is}
 use Rattle.comparisons.proofs.SearchLaws.{FirstMasked, FirstJoin, first-symmetric}
 use Rattle.comparisons.specs.Orders.{orderOf, wordsOrder, order}

@@ -11,16 +11,16 @@ use lib.Dec.{leb}
 use Rattle.word_bits.specs.Counts.{some}
 use Rattle.word_bits.proofs.Order.{lt-or-le}
 use Rattle.masks.specs.Ranges.{covers}
-use Rattle.masks.proofs.RangeLaws.{covers-yes, covers-below, range-yes}
+use Rattle.masks.proofs.RangeLaws.{covers-yes, covers-below}
+use Rattle.sets.proofs.RangeQuestionLaws.{range-yes}
 use Rattle.sets.specs.Members.{Members, read}
-use Rattle.sets.specs.Questions.{questions}
+use Rattle.sets.specs.Questions.{questions, rangeQuestions}
 use Rattle.sets.specs.declared.answers.Told.{Told}
 use Rattle.sets.specs.declared.fixed_bit_set.FixedBitSet.{FixedBitSet}
 use Rattle.sets.proofs.OutcomeLaws.{given-yes}
 use Rattle.sets.proofs.QuestionLaws.{first-yes}
 use Rattle.sets.proofs.ReadLaws.{read-above}
 use Rattle.sets.proofs.WordLaws.{words-hold}
-use Rattle.tests.specs.Rules.{rangeQuestions}
 use Rattle.tests.proofs.RowLaws.{some-ext, all-not-some}
 use Rattle.tests.specs.Tests.{anyIn}
 use Rattle.tests.specs.Rules.{containsAnyRule}
@@ -99,7 +99,7 @@ module _ {a : FixedBitSet} {ws : List ℕ} {b : FixedBitSet} {vs : List ℕ} {en
 -- ---- the range past the common words is accepted
 
 pub any-accepted : (set : FixedBitSet) (ws : List ℕ) (start : ℕ) → questions set ws ≡ 0 → start ≤ set .length
-    → containsAnyRule set start (set .length) ws .yes ≡ anyIn start (set .length) (read ws set)
+    → containsAnyRule set ws start (set .length) .yes ≡ anyIn start (set .length) (read ws set)
 any-accepted set ws start q h =
-    let z : 0 ≡ rangeQuestions set start (set .length) ws = first-yes q (sym (range-yes start (set .length) (set .length) h (le-refl (set .length)))) in
+    let z : 0 ≡ rangeQuestions set ws start (set .length) = first-yes q (sym (range-yes start (set .length) (set .length) h (le-refl (set .length)))) in
     ap (λ (t : Told). t .yes) (sym (given-yes (λ m. record { number = m; yes = false }) z refl))

@@ -14,15 +14,13 @@ use Rattle.word_bits.proofs.Ends.{below-lt, below-yes}
 use Rattle.word_bits.proofs.Order.{lt-or-le}
 use Rattle.word_bits.proofs.Quantifiers.{some-yes, some-no}
 use Rattle.sets.specs.Members.{Members, wordsOf, read}
-use Rattle.sets.specs.Questions.{questions}
+use Rattle.sets.specs.Questions.{questions, bothQuestions}
 use Rattle.sets.specs.declared.fixed_bit_set.FixedBitSet.{FixedBitSet}
-use Rattle.sets.proofs.QuestionLaws.{valid, first-both}
+use Rattle.sets.proofs.QuestionLaws.{valid, first-both, BothValid}
 use Rattle.sets.proofs.ReadLaws.{read-digit}
 use Rattle.blocks.specs.Operations.{joined, joinedWord, maskedJoin}
-use Rattle.two_sets.specs.Rules.{bothQuestions}
 use Rattle.blocks.specs.declared.operation.Operation.{Operation}
 use Rattle.blocks.specs.declared.operation.Operation.the-variants.{Intersection, Difference, SymmetricDifference}
-use Rattle.two_sets.proofs.SetJoins.{BothValid}
 use Rattle.blocks.proofs.WordJoins.{joined-digit, joined-lt, intersection-word, difference-word, symmetric-difference-word}
 use Rattle.comparisons.specs.Helpers.{common, FirstAt}
 

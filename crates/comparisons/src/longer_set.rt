@@ -1,13 +1,14 @@
 use sets::FixedBitSet;
 use sets::as_slice;
-use two_sets::check_both;
+use sets::check_both;
 ghost use mathlib.Core.Path.{_≡_};
-ghost use Rattle.two_sets.specs.Rules.{bothQuestions};
+ghost use Rattle.sets.specs.Questions.{bothQuestions};
+ghost use Rattle.sets.specs.Rules.{slicePart};
 ghost use Rattle.comparisons.specs.Rules.{longerRule};
 
 // The words of the longer set, as a part of its own slice: the second's for equal lengths.
 pub fn longer<'a>(a: FixedBitSet, words: &'a [u64], b: FixedBitSet, other: &'a [u64]) -> &'a [u64]
-    ensures { λ r. ⌜ now r ≡ longerRule a (now (words .entry)) b (now (other .entry)) ⌝ }
+    ensures { λ r. ⌜ slicePart r ≡ longerRule a (words .entry) b (other .entry) ⌝ }
 {
     if check_both(a, words, b, other) != 0 {
         return &words[..0];

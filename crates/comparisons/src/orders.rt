@@ -2,7 +2,7 @@ use crate::search::first_joined;
 use sets::FixedBitSet;
 use sets::Told;
 use sets::blocks_of;
-use two_sets::check_both;
+use sets::check_both;
 ghost use mathlib.Core.Path.{_≡_};
 ghost use Prim.Native.Nat.{_≤_};
 ghost use lib.ListN.{length};

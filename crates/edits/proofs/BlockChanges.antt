@@ -15,7 +15,8 @@ use Rattle.word_bits.proofs.Order.{lt-or-le}
 use Rattle.masks.specs.Ranges.{covers, endBlock}
 use Rattle.masks.specs.RangeMasks.{rangeMask}
 use Rattle.masks.proofs.MaskLaws.{mask-before, mask-beyond, mask-whole}
-use Rattle.masks.proofs.RangeLaws.{Within, covers-below, covers-above, end-block-le}
+use Rattle.masks.proofs.RangeLaws.{covers-below, covers-above, end-block-le}
+use Rattle.sets.proofs.RangeQuestionLaws.{Within}
 use Rattle.blocks.specs.Sweeps.{swept}
 use Rattle.sets.specs.Members.{wordsOf, read, write, changed}
 use Rattle.sets.specs.declared.fixed_bit_set.FixedBitSet.{FixedBitSet}

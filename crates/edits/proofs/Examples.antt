@@ -8,6 +8,6 @@ use Rattle.sets.specs.Questions.{lengthQuestion, wordsQuestion, strayQuestion, 
 use Rattle.edits.specs.Rules.{growAndInsertRule}
 
 -- `grow_and_insert` of 65,536: 6
-too-long : growAndInsertRule (record { length = 0 }) 65536 [] ≡ record { number = 6; set = record { length = 0 }; words = [] }
+too-long : growAndInsertRule (record { length = 0 }) [] 65536 ≡ record { number = 6; set = record { length = 0 }; words = [] }
 unfolding some wordsOf given lengthQuestion wordsQuestion strayQuestion questions newLengthQuestion roomQuestion
 too-long = refl

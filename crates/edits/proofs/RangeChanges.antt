@@ -12,7 +12,8 @@ use Rattle.word_bits.proofs.Order.{lt-or-le}
 use Rattle.masks.specs.Ranges.{covers}
 use Rattle.masks.specs.RangeMasks.{rangeMask}
 use Rattle.masks.proofs.MaskLaws.{mask-beyond}
-use Rattle.masks.proofs.RangeLaws.{Within, covers-above, end-block-le}
+use Rattle.masks.proofs.RangeLaws.{covers-above, end-block-le}
+use Rattle.sets.proofs.RangeQuestionLaws.{Within}
 use Rattle.blocks.specs.Sweeps.{swept}
 use Rattle.sets.specs.Members.{wordsOf, read, write, changed}
 use Rattle.sets.specs.declared.fixed_bit_set.FixedBitSet.{FixedBitSet}

@@ -3,8 +3,7 @@ use crate::change::assigning;
 use crate::change::change_block;
 use sets::Edited;
 use sets::FixedBitSet;
-use sets::ask_position;
-use sets::check;
+use sets::check_position;
 use sets::member;
 ghost use mathlib.Core.Path.{_≡_};
 ghost use lib.Dec.{eqb};
@@ -21,13 +20,9 @@ pub struct Replaced {
 }
 
 fn change_position(set: FixedBitSet, words: &mut [u64], bit: usize, change: Change) -> Edited
-    ensures { λ r. ⌜ outcome r (now (words .exit)) ≡ atPosition set bit (now (words .entry)) (changed (eqb bit) (effect change) (read (now (words .entry)) set)) ⌝ }
+    ensures { λ r. ⌜ outcome r (now (words .exit)) ≡ atPosition set (now (words .entry)) bit (changed (eqb bit) (effect change) (read (now (words .entry)) set)) ⌝ }
 {
-    let number = check(set, words);
-    if number != 0 {
-        return Edited { number, set };
-    }
-    let number = ask_position(set, bit);
+    let number = check_position(set, words, bit);
     if number != 0 {
         return Edited { number, set };
     }
@@ -37,32 +32,32 @@ fn change_position(set: FixedBitSet, words: &mut [u64], bit: usize, change: Chan
 }
 
 pub fn insert(set: FixedBitSet, words: &mut [u64], bit: usize) -> Edited
-    ensures { λ r. ⌜ outcome r (now (words .exit)) ≡ insertRule set bit (now (words .entry)) ⌝ }
+    ensures { λ r. ⌜ outcome r (now (words .exit)) ≡ insertRule set (now (words .entry)) bit ⌝ }
 {
     change_position(set, words, bit, Change::Insert)
 }
 
 pub fn remove(set: FixedBitSet, words: &mut [u64], bit: usize) -> Edited
-    ensures { λ r. ⌜ outcome r (now (words .exit)) ≡ removeRule set bit (now (words .entry)) ⌝ }
+    ensures { λ r. ⌜ outcome r (now (words .exit)) ≡ removeRule set (now (words .entry)) bit ⌝ }
 {
     change_position(set, words, bit, Change::Remove)
 }
 
 pub fn toggle(set: FixedBitSet, words: &mut [u64], bit: usize) -> Edited
-    ensures { λ r. ⌜ outcome r (now (words .exit)) ≡ toggleRule set bit (now (words .entry)) ⌝ }
+    ensures { λ r. ⌜ outcome r (now (words .exit)) ≡ toggleRule set (now (words .entry)) bit ⌝ }
 {
     change_position(set, words, bit, Change::Toggle)
 }
 
 pub fn set(set: FixedBitSet, words: &mut [u64], bit: usize, enabled: bool) -> Edited
-    ensures { λ r. ⌜ outcome r (now (words .exit)) ≡ setRule set bit enabled (now (words .entry)) ⌝ }
+    ensures { λ r. ⌜ outcome r (now (words .exit)) ≡ setRule set (now (words .entry)) bit enabled ⌝ }
 {
     change_position(set, words, bit, assigning(enabled))
 }
 
 // Gives `to` the state that `from` had. A `from` at or above the length counts as no.
 pub fn copy_bit(set: FixedBitSet, words: &mut [u64], from: usize, to: usize) -> Edited
-    ensures { λ r. ⌜ outcome r (now (words .exit)) ≡ copyBitRule set from to (now (words .entry)) ⌝ }
+    ensures { λ r. ⌜ outcome r (now (words .exit)) ≡ copyBitRule set (now (words .entry)) from to ⌝ }
 {
     let enabled = member(set, words, from);
     change_position(set, words, to, assigning(enabled))
@@ -70,7 +65,7 @@ pub fn copy_bit(set: FixedBitSet, words: &mut [u64], from: usize, to: usize) -> 
 
 // Inserts, and tells whether the position was a member.
 pub fn put(set: FixedBitSet, words: &mut [u64], bit: usize) -> Replaced
-    ensures { λ r. ⌜ putOutcome r (now (words .exit)) ≡ putRule set bit (now (words .entry)) ⌝ }
+    ensures { λ r. ⌜ putOutcome r (now (words .exit)) ≡ putRule set (now (words .entry)) bit ⌝ }
 {
     let was = member(set, words, bit);
     let edited = change_position(set, words, bit, Change::Insert);

@@ -1,10 +1,9 @@
 use crate::change::Change;
 use crate::change::assigning;
 use crate::covered::change_covered;
-use masks::ask_range;
 use sets::Edited;
 use sets::FixedBitSet;
-use sets::check;
+use sets::check_range;
 ghost use mathlib.Core.Path.{_≡_};
 ghost use Rattle.masks.specs.Ranges.{covers};
 ghost use Rattle.sets.specs.Members.{read, changed};
@@ -19,13 +18,9 @@ fn change_range(
     end: usize,
     change: Change,
 ) -> Edited
-    ensures { λ r. ⌜ outcome r (now (words .exit)) ≡ overRange set start end (now (words .entry)) (changed (covers start end) (effect change) (read (now (words .entry)) set)) ⌝ }
+    ensures { λ r. ⌜ outcome r (now (words .exit)) ≡ overRange set (now (words .entry)) start end (changed (covers start end) (effect change) (read (now (words .entry)) set)) ⌝ }
 {
-    let number = check(set, words);
-    if number != 0 {
-        return Edited { number, set };
-    }
-    let number = ask_range(start, end, set.length);
+    let number = check_range(set, words, start, end);
     if number != 0 {
         return Edited { number, set };
     }
@@ -34,19 +29,19 @@ fn change_range(
 }
 
 pub fn insert_range(set: FixedBitSet, words: &mut [u64], start: usize, end: usize) -> Edited
-    ensures { λ r. ⌜ outcome r (now (words .exit)) ≡ insertRangeRule set start end (now (words .entry)) ⌝ }
+    ensures { λ r. ⌜ outcome r (now (words .exit)) ≡ insertRangeRule set (now (words .entry)) start end ⌝ }
 {
     change_range(set, words, start, end, Change::Insert)
 }
 
 pub fn remove_range(set: FixedBitSet, words: &mut [u64], start: usize, end: usize) -> Edited
-    ensures { λ r. ⌜ outcome r (now (words .exit)) ≡ removeRangeRule set start end (now (words .entry)) ⌝ }
+    ensures { λ r. ⌜ outcome r (now (words .exit)) ≡ removeRangeRule set (now (words .entry)) start end ⌝ }
 {
     change_range(set, words, start, end, Change::Remove)
 }
 
 pub fn toggle_range(set: FixedBitSet, words: &mut [u64], start: usize, end: usize) -> Edited
-    ensures { λ r. ⌜ outcome r (now (words .exit)) ≡ toggleRangeRule set start end (now (words .entry)) ⌝ }
+    ensures { λ r. ⌜ outcome r (now (words .exit)) ≡ toggleRangeRule set (now (words .entry)) start end ⌝ }
 {
     change_range(set, words, start, end, Change::Toggle)
 }
@@ -58,7 +53,7 @@ pub fn set_range(
     end: usize,
     enabled: bool,
 ) -> Edited
-    ensures { λ r. ⌜ outcome r (now (words .exit)) ≡ setRangeRule set start end enabled (now (words .entry)) ⌝ }
+    ensures { λ r. ⌜ outcome r (now (words .exit)) ≡ setRangeRule set (now (words .entry)) start end enabled ⌝ }
 {
     change_range(set, words, start, end, assigning(enabled))
 }

@@ -24,7 +24,7 @@ pub fn clear(set: FixedBitSet, words: &mut [u64]) -> Edited
 
 // The words that the longer set takes in are overwritten, whatever the caller had there.
 pub fn grow(set: FixedBitSet, words: &mut [u64], bits: usize) -> Edited
-    ensures { λ r. ⌜ outcome r (now (words .exit)) ≡ growRule set bits (now (words .entry)) ⌝ }
+    ensures { λ r. ⌜ outcome r (now (words .exit)) ≡ growRule set (now (words .entry)) bits ⌝ }
 {
     let number = check(set, words);
     if number != 0 {
@@ -43,7 +43,7 @@ pub fn grow(set: FixedBitSet, words: &mut [u64], bits: usize) -> Edited
 }
 
 pub fn grow_and_insert(set: FixedBitSet, words: &mut [u64], bit: usize) -> Edited
-    ensures { λ r. ⌜ outcome r (now (words .exit)) ≡ growAndInsertRule set bit (now (words .entry)) ⌝ }
+    ensures { λ r. ⌜ outcome r (now (words .exit)) ≡ growAndInsertRule set (now (words .entry)) bit ⌝ }
 {
     if 65536 <= bit {
         let number = check(set, words);

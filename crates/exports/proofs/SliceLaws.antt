@@ -1,41 +1,48 @@
--- The words of a set as a part of their slice. Assumes nothing.
+-- The words of a set, and of the longer of two, by offset and count. Assumes nothing.
 use mathlib.Core.Path.{_≡_, refl, sym, ap, _∙_}
-use mathlib.Core.Bool.{Bool, true, false, cond, not}
-use mathlib.Core.List.{List, [], _∷_}
-use Prim.Native.Nat.{ℕ, zero, suc, _≤_, zero-le, suc-le-suc}
+use mathlib.Core.List.{List}
+use mathlib.Core.Logic.{_⊎_, inl, inr}
+use Prim.Native.Nat.{ℕ, zero, suc, _≤_, _<_, max}
 use native.Mathlib.Omega.{arith}
-use lib.Dec.{leb, ltb, leb·zero, leb·suc-zero, leb·suc-suc}
-use lib.ListN.{length, take}
+use denote.Ref.{RefT, now}
+use lib.ListN.{length}
+use lib.Seq.{length-take-le}
+use Rattle.word_bits.proofs.Order.{lt-or-le}
+use Rattle.sets.specs.Members.{wordsOf}
 use Rattle.sets.specs.Outcomes.{given}
-use Rattle.exports.specs.Slices.{PartOf}
+use Rattle.sets.specs.Questions.{bothQuestions}
+use Rattle.sets.specs.Rules.{SlicePart, firstWords}
+use Rattle.sets.specs.declared.fixed_bit_set.FixedBitSet.{FixedBitSet}
+use Rattle.sets.proofs.OutcomeLaws.{given-no}
+use Rattle.sets.proofs.QuestionLaws.{Valid, BothValid, both-valid}
+use Rattle.sets.proofs.SliceLaws.{own-part}
+use Rattle.comparisons.specs.Rules.{longerRule}
+use Rattle.comparisons.proofs.SliceLaws.{longer-first, longer-second}
+use Rattle.exports.specs.declared.answers.FbsSlice.{FbsSlice}
 
-take-own : (k : ℕ) (ws : List ℕ) → take (length (take k ws)) ws ≡ take k ws
-take-own zero ws = refl
-take-own (suc k) [] = refl
-take-own (suc k) (w ∷ ws) = ap (λ (us : List ℕ). w ∷ us) (take-own k ws)
-
-take-within : (k : ℕ) (ws : List ℕ) → length (take k ws) ≤ length ws
-take-within zero ws = zero-le
-take-within (suc k) [] = zero-le
-take-within (suc k) (w ∷ ws) = suc-le-suc (take-within k ws)
-
--- the first words of a slice, or none where refused
-pub first-words : (n k : ℕ) (ws : List ℕ) → PartOf 0 (length (given n (λ m. []) (take k ws))) ws (given n (λ m. []) (take k ws))
+-- the first k words of a slice by offset and count, and no word where refused
+pub slice-counts : (n k : ℕ) (slice : RefT (List ℕ)) → (n ≡ 0 → k ≤ length (now slice))
+    → _≡_ {A = FbsSlice} (record { offset = 0; count = length (given n (λ m. firstWords slice 0) (firstWords slice k) .words) })
+    (given n (λ m. record { offset = 0; count = 0 }) (record { offset = 0; count = k }))
 unfolding given
-first-words zero k ws = record { inside = omega (arith, take-within k ws); words = take-own k ws }
-first-words (suc n) k ws = record { inside = omega arith; words = refl }
+slice-counts zero k slice h = ap (λ (c : ℕ). record { offset = 0; count = c }) (length-take-le k (now slice) (h refl))
+slice-counts (suc n) k slice h = refl
 
-le-not-lt : (p q : ℕ) → leb p q ≡ not (ltb q p)
-le-not-lt zero q = leb·zero q ∙ sym (ap not (leb·suc-zero q))
-le-not-lt (suc p) zero = leb·suc-zero p ∙ sym (ap not (leb·suc-suc 0 p ∙ leb·zero p))
-le-not-lt (suc p) (suc q) = leb·suc-suc p q ∙ le-not-lt p q ∙ sym (ap not (leb·suc-suc (suc q) p))
+module _ (a : FixedBitSet) (words : RefT (List ℕ)) (b : FixedBitSet) (other : RefT (List ℕ)) {part : SlicePart} (e : part ≡ longerRule a words b other) where
+  pub longer-none : (bothQuestions a (now words) b (now other) ≡ 0 → ⊥) → length (part .words) ≡ 0
+  longer-none h = ap (λ (s : SlicePart). length (s .words)) (e ∙ sym (given-no (λ m. firstWords words 0) _ refl h))
 
-chosen-words : (n : ℕ) (t : Bool) (j k : ℕ) (ws vs : List ℕ)
-    → PartOf 0 (length (given n (λ m. []) (cond t (take j ws) (take k vs)))) (cond (not t) vs ws) (given n (λ m. []) (cond t (take j ws) (take k vs)))
-chosen-words n true j k ws vs = first-words n j ws
-chosen-words n false j k ws vs = first-words n k vs
+  pub longer-count : bothQuestions a (now words) b (now other) ≡ 0 → length (part .words) ≡ wordsOf (max (a .length) (b .length))
+  longer-count z = go (lt-or-le (b .length) (a .length))
+    where
+      v : BothValid a (now words) b (now other)
+      v = both-valid a (now words) b (now other) z
 
--- the first words of the slice of the longer of two sets, whose lengths are p and q
-pub longer-words : (n p q j k : ℕ) (ws vs : List ℕ)
-    → PartOf 0 (length (given n (λ m. []) (cond (ltb q p) (take j ws) (take k vs)))) (cond (leb p q) vs ws) (given n (λ m. []) (cond (ltb q p) (take j ws) (take k vs)))
-longer-words n p q j k ws vs = rw (le-not-lt p q) (chosen-words n (ltb q p) j k ws vs)
+      whole : (set : FixedBitSet) (slice : RefT (List ℕ)) → Valid set (now slice) → part ≡ firstWords slice (wordsOf (set .length)) → max (a .length) (b .length) ≡ set .length
+          → length (part .words) ≡ wordsOf (max (a .length) (b .length))
+      whole set slice w p m =
+          ap (λ (s : SlicePart). length (s .words)) p ∙ length-take-le (wordsOf (set .length)) (now slice) (w .enough) ∙ ap wordsOf (sym m)
+
+      go : (b .length < a .length) ⊎ (a .length ≤ b .length) → length (part .words) ≡ wordsOf (max (a .length) (b .length))
+      go (inl l) = whole a words (v .one) (e ∙ sym (longer-first a words b other refl z l) ∙ own-part a words (v .one)) (omega arith)
+      go (inr g) = whole b other (v .two) (e ∙ sym (longer-second a words b other refl z g) ∙ own-part b other (v .two)) (omega arith)

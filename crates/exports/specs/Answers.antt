@@ -1,8 +1,8 @@
 -- Answers as C takes them.
 use mathlib.Core.Bool.{Bool, true, false, cond}
-use Rattle.sets.specs.declared.found.Found.{Found}
-use Rattle.sets.specs.declared.found.Position.{Position}
-use Rattle.sets.specs.declared.found.Position.the-variants.{At, Nothing}
+use Rattle.sets.specs.declared.answers.Found.{Found}
+use Rattle.sets.specs.declared.answers.Position.{Position}
+use Rattle.sets.specs.declared.answers.Position.the-variants.{At, Nothing}
 use Rattle.parts.specs.declared.records.End.{End}
 use Rattle.parts.specs.declared.records.End.the-variants.{Front, Back}
 use Rattle.walks.specs.declared.answers.Stepped.{Stepped}

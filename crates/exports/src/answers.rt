@@ -1,5 +1,5 @@
-use parts::Part;
 use sets::Found;
+use sets::Part;
 use sets::Position;
 use walks::Stepped;
 use walks::SteppedPair;

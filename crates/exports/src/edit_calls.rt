@@ -21,35 +21,35 @@ ghost use Rattle.edits.specs.Rules.{clearRule, growRule, growAndInsertRule};
 
 #[no_mangle]
 pub extern "C" fn fbs_insert(set: FixedBitSet, words: &mut [u64], bit: usize) -> Edited
-    ensures { λ r. ⌜ outcome r (now (words .exit)) ≡ insertRule set bit (now (words .entry)) ⌝ }
+    ensures { λ r. ⌜ outcome r (now (words .exit)) ≡ insertRule set (now (words .entry)) bit ⌝ }
 {
     insert(set, words, bit)
 }
 
 #[no_mangle]
 pub extern "C" fn fbs_remove(set: FixedBitSet, words: &mut [u64], bit: usize) -> Edited
-    ensures { λ r. ⌜ outcome r (now (words .exit)) ≡ removeRule set bit (now (words .entry)) ⌝ }
+    ensures { λ r. ⌜ outcome r (now (words .exit)) ≡ removeRule set (now (words .entry)) bit ⌝ }
 {
     remove(set, words, bit)
 }
 
 #[no_mangle]
 pub extern "C" fn fbs_put(set: FixedBitSet, words: &mut [u64], bit: usize) -> Replaced
-    ensures { λ r. ⌜ putOutcome r (now (words .exit)) ≡ putRule set bit (now (words .entry)) ⌝ }
+    ensures { λ r. ⌜ putOutcome r (now (words .exit)) ≡ putRule set (now (words .entry)) bit ⌝ }
 {
     put(set, words, bit)
 }
 
 #[no_mangle]
 pub extern "C" fn fbs_toggle(set: FixedBitSet, words: &mut [u64], bit: usize) -> Edited
-    ensures { λ r. ⌜ outcome r (now (words .exit)) ≡ toggleRule set bit (now (words .entry)) ⌝ }
+    ensures { λ r. ⌜ outcome r (now (words .exit)) ≡ toggleRule set (now (words .entry)) bit ⌝ }
 {
     toggle(set, words, bit)
 }
 
 #[no_mangle]
 pub extern "C" fn fbs_set(set: FixedBitSet, words: &mut [u64], bit: usize, enabled: bool) -> Edited
-    ensures { λ r. ⌜ outcome r (now (words .exit)) ≡ setRule set bit enabled (now (words .entry)) ⌝ }
+    ensures { λ r. ⌜ outcome r (now (words .exit)) ≡ setRule set (now (words .entry)) bit enabled ⌝ }
 {
     edits::set(set, words, bit, enabled)
 }
@@ -61,7 +61,7 @@ pub extern "C" fn fbs_copy_bit(
     from: usize,
     to: usize,
 ) -> Edited
-    ensures { λ r. ⌜ outcome r (now (words .exit)) ≡ copyBitRule set from to (now (words .entry)) ⌝ }
+    ensures { λ r. ⌜ outcome r (now (words .exit)) ≡ copyBitRule set (now (words .entry)) from to ⌝ }
 {
     copy_bit(set, words, from, to)
 }
@@ -73,7 +73,7 @@ pub extern "C" fn fbs_insert_range(
     start: usize,
     end: usize,
 ) -> Edited
-    ensures { λ r. ⌜ outcome r (now (words .exit)) ≡ insertRangeRule set start end (now (words .entry)) ⌝ }
+    ensures { λ r. ⌜ outcome r (now (words .exit)) ≡ insertRangeRule set (now (words .entry)) start end ⌝ }
 {
     insert_range(set, words, start, end)
 }
@@ -85,7 +85,7 @@ pub extern "C" fn fbs_remove_range(
     start: usize,
     end: usize,
 ) -> Edited
-    ensures { λ r. ⌜ outcome r (now (words .exit)) ≡ removeRangeRule set start end (now (words .entry)) ⌝ }
+    ensures { λ r. ⌜ outcome r (now (words .exit)) ≡ removeRangeRule set (now (words .entry)) start end ⌝ }
 {
     remove_range(set, words, start, end)
 }
@@ -97,7 +97,7 @@ pub extern "C" fn fbs_toggle_range(
     start: usize,
     end: usize,
 ) -> Edited
-    ensures { λ r. ⌜ outcome r (now (words .exit)) ≡ toggleRangeRule set start end (now (words .entry)) ⌝ }
+    ensures { λ r. ⌜ outcome r (now (words .exit)) ≡ toggleRangeRule set (now (words .entry)) start end ⌝ }
 {
     toggle_range(set, words, start, end)
 }
@@ -110,7 +110,7 @@ pub extern "C" fn fbs_set_range(
     end: usize,
     enabled: bool,
 ) -> Edited
-    ensures { λ r. ⌜ outcome r (now (words .exit)) ≡ setRangeRule set start end enabled (now (words .entry)) ⌝ }
+    ensures { λ r. ⌜ outcome r (now (words .exit)) ≡ setRangeRule set (now (words .entry)) start end enabled ⌝ }
 {
     set_range(set, words, start, end, enabled)
 }
@@ -124,14 +124,14 @@ pub extern "C" fn fbs_clear(set: FixedBitSet, words: &mut [u64]) -> Edited
 
 #[no_mangle]
 pub extern "C" fn fbs_grow(set: FixedBitSet, words: &mut [u64], bits: usize) -> Edited
-    ensures { λ r. ⌜ outcome r (now (words .exit)) ≡ growRule set bits (now (words .entry)) ⌝ }
+    ensures { λ r. ⌜ outcome r (now (words .exit)) ≡ growRule set (now (words .entry)) bits ⌝ }
 {
     grow(set, words, bits)
 }
 
 #[no_mangle]
 pub extern "C" fn fbs_grow_and_insert(set: FixedBitSet, words: &mut [u64], bit: usize) -> Edited
-    ensures { λ r. ⌜ outcome r (now (words .exit)) ≡ growAndInsertRule set bit (now (words .entry)) ⌝ }
+    ensures { λ r. ⌜ outcome r (now (words .exit)) ≡ growAndInsertRule set (now (words .entry)) bit ⌝ }
 {
     grow_and_insert(set, words, bit)
 }

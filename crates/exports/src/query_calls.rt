@@ -21,7 +21,7 @@ ghost use Rattle.exports.specs.Answers.{exportFound};
 
 #[no_mangle]
 pub extern "C" fn fbs_contains(set: FixedBitSet, words: &[u64], bit: usize) -> Told
-    ensures { λ r. ⌜ r ≡ containsRule set bit (now (words .entry)) ⌝ }
+    ensures { λ r. ⌜ r ≡ containsRule set (now (words .entry)) bit ⌝ }
 {
     contains(set, words, bit)
 }
@@ -33,7 +33,7 @@ pub extern "C" fn fbs_contains_all_in_range(
     start: usize,
     end: usize,
 ) -> Told
-    ensures { λ r. ⌜ r ≡ containsAllRule set start end (now (words .entry)) ⌝ }
+    ensures { λ r. ⌜ r ≡ containsAllRule set (now (words .entry)) start end ⌝ }
 {
     contains_all_in_range(set, words, start, end)
 }
@@ -45,7 +45,7 @@ pub extern "C" fn fbs_contains_any_in_range(
     start: usize,
     end: usize,
 ) -> Told
-    ensures { λ r. ⌜ r ≡ containsAnyRule set start end (now (words .entry)) ⌝ }
+    ensures { λ r. ⌜ r ≡ containsAnyRule set (now (words .entry)) start end ⌝ }
 {
     contains_any_in_range(set, words, start, end)
 }
@@ -71,7 +71,7 @@ pub extern "C" fn fbs_count_ones(
     start: usize,
     end: usize,
 ) -> Counted
-    ensures { λ r. ⌜ r ≡ countOnesRule set start end (now (words .entry)) ⌝ }
+    ensures { λ r. ⌜ r ≡ countOnesRule set (now (words .entry)) start end ⌝ }
 {
     count_ones(set, words, start, end)
 }
@@ -83,7 +83,7 @@ pub extern "C" fn fbs_count_zeroes(
     start: usize,
     end: usize,
 ) -> Counted
-    ensures { λ r. ⌜ r ≡ countZeroesRule set start end (now (words .entry)) ⌝ }
+    ensures { λ r. ⌜ r ≡ countZeroesRule set (now (words .entry)) start end ⌝ }
 {
     count_zeroes(set, words, start, end)
 }

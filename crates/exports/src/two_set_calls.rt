@@ -15,14 +15,11 @@ use two_set_counts::intersection_count;
 use two_set_counts::symmetric_difference_count;
 use two_set_counts::union_count;
 ghost use mathlib.Core.Path.{_≡_};
-ghost use mathlib.Core.Bool.{cond};
-ghost use lib.Dec.{leb};
-ghost use Rattle.two_sets.specs.Rules.{bothQuestions};
+ghost use Rattle.sets.specs.Questions.{bothQuestions};
 ghost use Rattle.two_set_counts.specs.Rules.{unionCountRule, intersectionCountRule, differenceCountRule, symmetricDifferenceCountRule};
 ghost use Rattle.comparisons.specs.Rules.{isDisjointRule, isSubsetRule, isSupersetRule};
 ghost use Rattle.comparisons.specs.Rules.{eqRule, cmpRule};
-ghost use Rattle.comparisons.specs.Rules.{longerRule};
-ghost use Rattle.exports.specs.Slices.{PartOf};
+ghost use Rattle.exports.specs.Slices.{exportLonger};
 
 #[no_mangle]
 pub extern "C" fn fbs_union_count(
@@ -129,12 +126,20 @@ pub extern "C" fn fbs_longer<'a>(
     b: FixedBitSet,
     other: &'a [u64],
 ) -> FbsLonger
-    ensures { λ r. ⌜ (r .second ≡ leb (a .length) (b .length)) × PartOf (r .offset) (r .count) (cond (r .second) (now (other .entry)) (now (words .entry))) (longerRule a (now (words .entry)) b (now (other .entry))) ⌝ }
+    ensures { λ r. ⌜ r ≡ exportLonger a (now (words .entry)) b (now (other .entry)) ⌝ }
 {
+    let part = longer(a, words, b, other);
+    if longer_number(a, words, b, other) != 0 {
+        return FbsLonger {
+            second: false,
+            offset: 0,
+            count: part.len(),
+        };
+    }
     FbsLonger {
         second: a.length <= b.length,
         offset: 0,
-        count: longer(a, words, b, other).len(),
+        count: part.len(),
     }
 }
 

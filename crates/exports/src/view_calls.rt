@@ -13,8 +13,8 @@ ghost use mathlib.Core.Path.{_≡_};
 ghost use Rattle.sets.specs.Outcomes.{outcome};
 ghost use Rattle.sets.specs.Questions.{questions};
 ghost use Rattle.sets.specs.Rules.{withCapacityRule, withCapacityAndBlocksRule};
-ghost use Rattle.sets.specs.Rules.{lenRule, isEmptyRule, asSliceRule};
-ghost use Rattle.exports.specs.Slices.{PartOf};
+ghost use Rattle.sets.specs.Rules.{lenRule, isEmptyRule};
+ghost use Rattle.exports.specs.Slices.{exportSlice};
 
 #[no_mangle]
 pub extern "C" fn fbs_with_capacity(bits: usize, words: &mut [u64]) -> Edited
@@ -50,7 +50,7 @@ pub extern "C" fn fbs_is_empty(set: FixedBitSet, words: &[u64]) -> Told
 
 #[no_mangle]
 pub extern "C" fn fbs_as_slice(set: FixedBitSet, words: &[u64]) -> FbsSlice
-    ensures { λ r. ⌜ PartOf (r .offset) (r .count) (now (words .entry)) (asSliceRule set (now (words .entry))) ⌝ }
+    ensures { λ r. ⌜ r ≡ exportSlice set (now (words .entry)) ⌝ }
 {
     FbsSlice {
         offset: 0,

@@ -1,8 +1,8 @@
 use crate::answers::FbsStepped;
 use crate::answers::stepped;
 use parts::End;
-use parts::Part;
 use sets::FixedBitSet;
+use sets::Part;
 use walkers::walker_step;
 use walks::first_part;
 use walks::ones_next;
@@ -54,7 +54,7 @@ pub extern "C" fn fbs_walker_step(
     part: Part,
     back: bool,
 ) -> FbsStepped
-    ensures { λ r. ⌜ r ≡ exportStepped (walkerRule (endAt back) set (now (words .entry)) part) ⌝ }
+    ensures { λ r. ⌜ r ≡ exportStepped (walkerRule set (now (words .entry)) part (endAt back)) ⌝ }
 {
     stepped(walker_step(set, words, part, end_at(back)))
 }

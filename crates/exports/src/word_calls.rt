@@ -5,7 +5,7 @@ ghost use Rattle.word_bits.specs.Digits.{digit};
 ghost use Rattle.word_bits.specs.Counts.{count, zerosBelow, zerosAbove};
 ghost use Rattle.word_bits.specs.LastBit.{lastBitRule};
 ghost use Rattle.word_bits.specs.LowMask.{lowMask};
-ghost use Rattle.masks.specs.Ranges.{rangeQuestion};
+ghost use Rattle.sets.specs.Questions.{rangeQuestion};
 ghost use Rattle.masks.specs.RangeMasks.{rangeMask, masksOf};
 
 #[no_mangle]
@@ -47,7 +47,7 @@ pub extern "C" fn fbs_low_mask(r: usize) -> u64
 pub extern "C" fn fbs_ask_range(start: usize, end: usize, length: usize) -> u64
     ensures { λ r. ⌜ r ≡ rangeQuestion start end length ⌝ }
 {
-    masks::ask_range(start, end, length)
+    sets::ask_range(start, end, length)
 }
 
 #[no_mangle]

@@ -3,25 +3,25 @@ use mathlib.Core.Path.{_≡_, refl}
 use mathlib.Core.List.{List, [], _∷_}
 use Prim.Native.Nat.{ℕ}
 use Rattle.word_bits.specs.Counts.{zerosBelow}
-use Rattle.masks.specs.Ranges.{covers, rangeQuestion}
+use Rattle.masks.specs.Ranges.{covers}
 use Rattle.sets.specs.Members.{wordsOf, changed}
 use Rattle.sets.specs.Outcomes.{given}
-use Rattle.sets.specs.Questions.{positionQuestion, newLengthQuestion, roomQuestion}
+use Rattle.sets.specs.Questions.{positionQuestion, newLengthQuestion, roomQuestion, rangeQuestion}
 use Rattle.edits.specs.Edits.{grown}
 use Rattle.two_sets.specs.Combined.{combined}
-use Rattle.sets.specs.declared.found.Position.the-variants.{At, Nothing}
+use Rattle.sets.specs.declared.answers.Position.the-variants.{At, Nothing}
 use Rattle.two_set_counts.specs.Lists.{positions}
 use Rattle.parts.specs.Steps.{front}
 use Rattle.parts.specs.declared.records.End.the-variants.{Front}
 use Rattle.calls.specs.Calls.{leaves}
 use Rattle.calls.specs.Encoding.{decodeAll}
-use Rattle.calls.specs.History.{State, history, fresh}
+use Rattle.calls.specs.History.{State, history, freshSets}
 use Rattle.whole_walks.specs.Walks.{walkList, answers, answersFrom}
 use Rattle.whole_walks.specs.declared.walk.Walk.the-variants.{Ones, Union, SymmetricDifference}
 
 -- on A insert 1, an insert of 65 that is refused, grow_and_insert 70; on B insert_range 0..2, a number that is no call
 made : State
-made = history 2 1 (decodeAll (0 ∷ 0 ∷ 1 ∷ 0 ∷ 0 ∷ 0 ∷ 0 ∷ 65 ∷ 0 ∷ 0 ∷ 0 ∷ 12 ∷ 70 ∷ 0 ∷ 0 ∷ 1 ∷ 6 ∷ 0 ∷ 2 ∷ 0 ∷ 1 ∷ 17 ∷ 0 ∷ 0 ∷ 0 ∷ [])) (fresh 65 2)
+made = history 2 1 (decodeAll (0 ∷ 0 ∷ 1 ∷ 0 ∷ 0 ∷ 0 ∷ 0 ∷ 65 ∷ 0 ∷ 0 ∷ 0 ∷ 12 ∷ 70 ∷ 0 ∷ 0 ∷ 1 ∷ 6 ∷ 0 ∷ 2 ∷ 0 ∷ 1 ∷ 17 ∷ 0 ∷ 0 ∷ 0 ∷ [])) (freshSets 65 2)
 
 lengths : (made .a .len ≡ 71) × (made .b .len ≡ 2)
 unfolding covers rangeQuestion wordsOf changed given positionQuestion newLengthQuestion roomQuestion grown leaves decodeAll history made

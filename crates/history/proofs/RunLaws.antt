@@ -1,4 +1,4 @@
--- The third demand, of the calls that a run makes: each gets what the one before it left. Assumes nothing.
+-- The third demand, of the calls that a run makes: each gets what the one before it stored. Assumes nothing.
 use mathlib.Core.Path.{_≡_, refl, sym, ap, ap₂, _∙_}
 use mathlib.Core.List.{List, [], _∷_, _++_, map}
 use Prim.Native.Nat.{ℕ, suc, _-_, _≤_, _<_, _^_}
@@ -9,18 +9,17 @@ use lib.ListN.{length, take, drop, getD, length-map}
 use lib.Seq.{take-at, drop-at}
 use Rattle.sets.specs.Members.{Members, wordsOf, empty, read, write, setOf}
 use Rattle.sets.specs.Outcomes.{Outcome, given}
-use Rattle.sets.specs.Questions.{first, questions, newQuestions}
+use Rattle.sets.specs.Questions.{first, questions, newQuestions, bothQuestions}
 use Rattle.sets.proofs.QuestionLaws.{first-both, first-yes, valid-yes}
 use Rattle.sets.proofs.ReadLaws.{write-valid}
 use Rattle.sets.proofs.WordLaws.{words-mono}
 use Rattle.sets.proofs.WriteLaws.{read-write, write-write, length-write}
 use Rattle.sets.specs.Rules.{withCapacityRule}
-use Rattle.sets.specs.declared.found.Position.{Position}
-use Rattle.sets.specs.declared.found.Position.the-variants.{At, Nothing}
-use Rattle.two_sets.specs.Rules.{bothQuestions}
+use Rattle.sets.specs.declared.answers.Position.{Position}
+use Rattle.sets.specs.declared.answers.Position.the-variants.{At, Nothing}
 use Rattle.calls.specs.Encoding.{decodeAll}
-use Rattle.calls.specs.History.{fresh, history}
-use Rattle.calls.specs.Rules.{ReplayOutcome, left, replayRule}
+use Rattle.calls.specs.History.{history, freshSets}
+use Rattle.calls.specs.Rules.{ReplayOutcome, replayRule, stored}
 use Rattle.calls.proofs.SoundLaws.{Sound}
 use Rattle.calls.proofs.HistoryLaws.{Keeps}
 use Rattle.whole_walks.specs.Walks.{walkList, answers}
@@ -70,12 +69,12 @@ module _ (i : Input) (go : questionsOf i ≡ 0) where
       let outer = first-both askedA (first askedB askedOut) go in
       let inner = first-both askedB askedOut (outer .1) in (outer .0, inner .0, inner .1)
 
-  k : Keeps (length ws) (length vs) (fresh (i .aBits) (i .bBits)) (stateOf i)
+  k : Keeps (length ws) (length vs) (freshSets (i .aBits) (i .bBits)) (stateOf i)
   k = kept (i .aBits) (length ws) (i .bBits) (length vs) (decodeAll (i .calls)) (passed .0) (passed .1)
 
   -- the calls leave the history's state
   replayed : {x y : Outcome} {z : ReplayOutcome} → x ≡ withCapacityRule (i .aBits) ws → y ≡ withCapacityRule (i .bBits) vs
-      → z ≡ replayRule (x .set) (x .words) (y .set) (y .words) (i .calls) → z ≡ left ws vs (stateOf i)
+      → z ≡ replayRule (x .set) (x .words) (y .set) (y .words) (i .calls) → z ≡ stored ws vs (stateOf i)
   replayed e f g =
       let a = empty (i .aBits) in
       let b = empty (i .bBits) in
@@ -96,8 +95,8 @@ module _ (i : Input) (go : questionsOf i ≡ 0) where
         write-write vs b (stateOf i .b) (words-mono (k .b .longer)) (k .b .sound .enough),
       ) refl
 
-  -- the walk and its count over what is left
-  walked-over : {z : ReplayOutcome} {w : WalkOutcome} → z ≡ left ws vs (stateOf i) → w ≡ walkRule (i .walk) (z .a) (z .words) (z .b) (z .other) (i .steps) (i .out)
+  -- the walk and its count over what is stored
+  walked-over : {z : ReplayOutcome} {w : WalkOutcome} → z ≡ stored ws vs (stateOf i) → w ≡ walkRule (z .a) (z .words) (z .b) (z .other) (i .walk) (i .steps) (i .out)
       → w ≡ record {
         number = 0;
         count = length (walkList (i .walk) (stateOf i .a) (stateOf i .b));
@@ -123,7 +122,7 @@ module _ (i : Input) (go : questionsOf i ≡ 0) where
   one-each = length-map given-answers answerWord ∙ demand .answered ∙ length-map (i .steps) endOf
 
   pub accepted : {x y : Outcome} {z : ReplayOutcome} {w : WalkOutcome} → x ≡ withCapacityRule (i .aBits) ws → y ≡ withCapacityRule (i .bBits) vs
-      → z ≡ replayRule (x .set) (x .words) (y .set) (y .words) (i .calls) → w ≡ walkRule (i .walk) (z .a) (z .words) (z .b) (z .other) (i .steps) (i .out)
+      → z ≡ replayRule (x .set) (x .words) (y .set) (y .words) (i .calls) → w ≡ walkRule (z .a) (z .words) (z .b) (z .other) (i .walk) (i .steps) (i .out)
       → Accepted i (record { number = w .number; a = z .a; words = z .words; b = z .b; other = z .other; count = w .count; out = w .out })
   accepted e f g h =
       let z = replayed e f g in

@@ -6,7 +6,7 @@ use Rattle.sets.specs.Members.{setOf, empty}
 use Rattle.sets.specs.Questions.{first, newQuestions}
 use Rattle.sets.specs.declared.fixed_bit_set.FixedBitSet.{FixedBitSet}
 use Rattle.calls.specs.Encoding.{decodeAll}
-use Rattle.calls.specs.History.{State, fresh, history}
+use Rattle.calls.specs.History.{State, history, freshSets}
 use Rattle.whole_walks.specs.Rules.{answersQuestion}
 use Rattle.whole_walks.specs.declared.walk.Walk.{Walk}
 use Rattle.history.specs.declared.ran.Ran.{Ran}
@@ -37,7 +37,7 @@ inputOf m ws n vs calls walk steps out = record { aBits = m; words = ws; bBits =
 abbrev pub outputOf : Ran → List ℕ → List ℕ → List ℕ → Output
 outputOf r ws vs out = record { number = r .number; a = r .a; words = ws; b = r .b; other = vs; count = r .count; out = out }
 
--- 6 and 7 of the first fresh set, then of the second; then 7 of the buffer for the answers
+-- 6 and 7 of the first freshSets set, then of the second; then 7 of the buffer for the answers
 abbrev pub runQuestions : ℕ → ℕ → ℕ → ℕ → ℕ → ℕ → ℕ
 runQuestions m room n space steps size = first (newQuestions m room) (first (newQuestions n space) (answersQuestion steps size))
 
@@ -50,4 +50,4 @@ unaltered i = record { number = questionsOf i; a = setOf (empty 0); words = i .w
 
 -- the state after the last call, by the history rule
 abbrev pub stateOf : Input → State
-stateOf i = history (length (i .words)) (length (i .other)) (decodeAll (i .calls)) (fresh (i .aBits) (i .bBits))
+stateOf i = history (length (i .words)) (length (i .other)) (decodeAll (i .calls)) (freshSets (i .aBits) (i .bBits))

@@ -3,14 +3,10 @@ use mathlib.Core.Path.{_≡_, refl}
 use mathlib.Core.List.{List, [], _∷_}
 use Prim.Native.Nat.{ℕ}
 use Rattle.word_bits.specs.Digits.{wordOf, number}
-use Rattle.masks.specs.Ranges.{covers, rangeQuestion, endBlock}
+use Rattle.masks.specs.Ranges.{covers, endBlock}
 use Rattle.masks.specs.RangeMasks.{rangeMask, masksOf}
 
--- 64..64 of 64 bits is accepted and meets no word; 64..65 is refused
-ends-of-64 : rangeQuestion 64 64 64 ∷ rangeQuestion 64 65 64 ∷ [] ≡ 0 ∷ 5 ∷ []
-unfolding rangeQuestion
-ends-of-64 = refl
-
+-- 64..64 meets no word
 nothing-met : masksOf 64 64 ≡ record { «first_block» = 1; «end_block» = 1; «first_mask» = 0; «last_mask» = 0 }
 unfolding wordOf number covers endBlock
 nothing-met = refl

@@ -1,4 +1,4 @@
--- What a range covers, which words it meets, and what question 5 tells. Assumes nothing.
+-- What a range covers, and which words it meets. Assumes nothing.
 use mathlib.Core.Path.{_≡_, refl, sym, ap, ap₂, _∙_}
 use mathlib.Core.Bool.{Bool, true, false, cond, not, _&&_, and-false}
 use mathlib.Core.Logic.{_⊎_, inl, inr}
@@ -8,7 +8,7 @@ use native.Mathlib.Omega.{arith}
 use borrow.Author.Tests.{lt-ltb, le-ltb, le-leb, lt-leb, leb-true}
 use lib.Dec.{leb, ltb}
 use Rattle.word_bits.proofs.Order.{lt-or-le}
-use Rattle.masks.specs.Ranges.{covers, rangeQuestion, endBlock}
+use Rattle.masks.specs.Ranges.{covers, endBlock}
 
 -- ---- positions
 
@@ -51,31 +51,3 @@ end-block-le start end len a b = go (lt-or-le start end)
     go : (start < end) ⊎ (end ≤ start) → endBlock start end ≤ (len + 63) / 64
     go (inl l) = rw (end-block start end l) (omega arith)
     go (inr g) = rw (end-block-empty start end g) (omega arith)
-
--- ---- question 5
-
--- what a range that is not refused has
-pub record Within (start end len : ℕ) : Type 0 where
-  pub ordered : start ≤ end
-  pub inside : end ≤ len
-
-pub range-yes : (start end len : ℕ) → start ≤ end → end ≤ len → rangeQuestion start end len ≡ 0
-unfolding rangeQuestion
-range-yes start end len a b = ap₂ (λ (s t : Bool). cond (s && t) 0 5) (le-leb start end a) (le-leb end len b)
-
-pub range-inverted : (start end len : ℕ) → end < start → rangeQuestion start end len ≡ 5
-unfolding rangeQuestion
-range-inverted start end len a = ap (λ (s : Bool). cond (s && leb end len) 0 5) (lt-leb start end a)
-
-pub range-outside : (start end len : ℕ) → len < end → rangeQuestion start end len ≡ 5
-unfolding rangeQuestion
-range-outside start end len a =
-    ap (λ (t : Bool). cond (leb start end && t) 0 5) (lt-leb end len a) ∙ ap (λ (t : Bool). cond t 0 5) (and-false (leb start end))
-
-pub within : (start end len : ℕ) → rangeQuestion start end len ≡ 0 → Within start end len
-within start end len e = go (lt-or-le end start) (lt-or-le len end)
-  where
-    go : (end < start) ⊎ (start ≤ end) → (len < end) ⊎ (end ≤ len) → Within start end len
-    go (inl a) w = absurd (omega (arith, range-inverted start end len a))
-    go (inr a) (inl b) = absurd (omega (arith, range-outside start end len b))
-    go (inr a) (inr b) = record { ordered = a; inside = b }

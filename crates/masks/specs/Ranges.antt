@@ -7,10 +7,6 @@ use lib.Dec.{leb, ltb}
 unfoldable pub covers : ℕ → ℕ → ℕ → Bool
 covers start end p = leb start p && ltb p end
 
--- question 5: is start <= end and end <= L?
-unfoldable pub rangeQuestion : ℕ → ℕ → ℕ → ℕ
-rangeQuestion start end len = cond (leb start end && leb end len) 0 5
-
 -- the words it meets are from start / 64 up to this one, which it does not meet: none where it covers no position
 unfoldable pub endBlock : ℕ → ℕ → ℕ
 endBlock start end = cond (ltb start end) ((end - 1) / 64 + 1) (start / 64)

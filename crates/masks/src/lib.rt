@@ -1,7 +1,5 @@
 // A range of positions and its mask in each 64-bit word.
 mod range_masks;
-mod ranges;
 
 pub use range_masks::Masks;
 pub use range_masks::range_mask;
-pub use ranges::ask_range;

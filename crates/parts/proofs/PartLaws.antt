@@ -17,12 +17,12 @@ use Rattle.word_bits.proofs.Order.{lt-or-le}
 use Rattle.masks.specs.Ranges.{covers, endBlock}
 use Rattle.masks.specs.RangeMasks.{rangeMask}
 use Rattle.masks.proofs.RangeLaws.{covers-yes, covers-below, covers-above, end-block, end-block-empty}
-use Rattle.sets.specs.declared.found.Position.the-variants.{At, Nothing}
+use Rattle.sets.specs.declared.answers.Position.the-variants.{At, Nothing}
 use Rattle.parts.specs.Selections.{row}
 use Rattle.parts.specs.Steps.{ahead, behind, front, back, step}
 use Rattle.parts.specs.declared.records.End.{End}
 use Rattle.parts.specs.declared.records.End.the-variants.{Front, Back}
-use Rattle.parts.specs.declared.records.Part.{Part}
+use Rattle.sets.specs.declared.answers.Part.{Part}
 use Rattle.parts.specs.declared.records.Step.{Step}
 
 pub row-at : (f : ℕ → ℕ) (k j : ℕ) → j < 64 → row f (k * 64 + j) ≡ digit (f k) j

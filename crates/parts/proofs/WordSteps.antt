@@ -16,10 +16,10 @@ use Rattle.masks.specs.Ranges.{covers, endBlock}
 use Rattle.masks.specs.RangeMasks.{rangeMask}
 use Rattle.masks.proofs.RangeLaws.{covers-yes, covers-below, covers-above, end-block, end-block-empty}
 use Rattle.masks.proofs.MaskLaws.{mask-before, mask-beyond}
-use Rattle.sets.specs.declared.found.Position.the-variants.{At, Nothing}
+use Rattle.sets.specs.declared.answers.Position.the-variants.{At, Nothing}
 use Rattle.parts.specs.Selections.{row}
 use Rattle.parts.specs.Steps.{front, back}
-use Rattle.parts.specs.declared.records.Part.{Part}
+use Rattle.sets.specs.declared.answers.Part.{Part}
 use Rattle.parts.proofs.PartLaws.{row-at, front-none, front-at, back-none, back-at}
 
 covered : (s e p : ℕ) → covers s e p ≡ true → (s ≤ p) × (p < e)

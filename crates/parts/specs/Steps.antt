@@ -3,11 +3,11 @@ use mathlib.Core.Bool.{Bool, cond}
 use Prim.Native.Nat.{ℕ, suc, _+_, _-_}
 use lib.Dec.{ltb}
 use Rattle.word_bits.specs.Counts.{zerosBelow, zerosAbove}
-use Rattle.sets.specs.declared.found.Position.{Position}
-use Rattle.sets.specs.declared.found.Position.the-variants.{At, Nothing}
+use Rattle.sets.specs.declared.answers.Position.{Position}
+use Rattle.sets.specs.declared.answers.Position.the-variants.{At, Nothing}
 use Rattle.parts.specs.declared.records.End.{End}
 use Rattle.parts.specs.declared.records.End.the-variants.{Front, Back}
-use Rattle.parts.specs.declared.records.Part.{Part}
+use Rattle.sets.specs.declared.answers.Part.{Part}
 use Rattle.parts.specs.declared.records.Step.{Step}
 
 -- the positions from low up, and from high down, that stand before the next one of the part

@@ -5,7 +5,6 @@ mod selections;
 
 pub use records::Chosen;
 pub use records::End;
-pub use records::Part;
 pub use records::Selection;
 pub use records::Step;
 pub use selections::step_selected;

@@ -1,3 +1,4 @@
+use sets::Part;
 use sets::Position;
 
 // Which positions of a set a part is, given another set.
@@ -12,13 +13,6 @@ pub enum Selection {
 pub enum End {
     Front,
     Back,
-}
-
-// What is left of a part: its positions from low up to high, which is not included.
-#[repr(C)]
-pub struct Part {
-    pub low: usize,
-    pub high: usize,
 }
 
 // A position or none, and what is left of the part after it.

@@ -1,8 +1,8 @@
-use crate::records::Part;
 use crate::records::Step;
 use blocks::block;
 use masks::Masks;
 use masks::range_mask;
+use sets::Part;
 use sets::Position;
 use word_bits::leading_zeros;
 use word_bits::trailing_zeros;

@@ -1,10 +1,10 @@
 use crate::records::Chosen;
 use crate::records::End;
-use crate::records::Part;
 use crate::records::Selection;
 use crate::records::Step;
 use crate::search::back_step;
 use crate::search::front_step;
+use sets::Part;
 ghost use mathlib.Core.Path.{_≡_};
 ghost use Prim.Native.Nat.{ℕ};
 ghost use Rattle.sets.specs.Members.{bitOf};

@@ -1,8 +1,10 @@
 pub mod WordLaws
 pub mod WriteLaws
 pub mod QuestionLaws
+pub mod RangeQuestionLaws
 pub mod OutcomeLaws
 pub mod ReadLaws
 mod StrayLaws
 pub mod ZeroLaws
 pub mod CopyLaws
+pub mod SliceLaws

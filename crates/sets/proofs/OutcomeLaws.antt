@@ -4,7 +4,7 @@ use Prim.Native.Nat.{ℕ, zero, suc}
 use native.Mathlib.Omega.{arith}
 use mathlib.Core.List.{List}
 use Rattle.sets.specs.Members.{Members}
-use Rattle.sets.specs.Outcomes.{given, edited}
+use Rattle.sets.specs.Outcomes.{Outcome, given, edited}
 use Rattle.sets.specs.declared.fixed_bit_set.FixedBitSet.{FixedBitSet}
 
 module _ {A : Type 0} where
@@ -44,6 +44,6 @@ module _ {A : Type 0} (of : A → ℕ) (refused : ℕ → A) where
   given-number accepted (suc n) num z e = ap of e ∙ num (suc n)
 
 -- a refused edit leaves the set as handed in and every word unaltered
-pub edited-refused : (n : ℕ) (set : FixedBitSet) (ws : List ℕ) (s : Members) → (n ≡ 0 → ⊥)
-    → edited n set ws s ≡ record { number = n; set = set; words = ws }
-edited-refused n set ws s h = sym (given-no (λ m. record { number = m; set = set; words = ws }) _ refl h)
+pub edited-no : (set : FixedBitSet) (ws : List ℕ) (s : Members) {m n : ℕ} → m ≡ n → (m ≡ 0 → ⊥)
+    → _≡_ {A = Outcome} (record { number = m; set = set; words = ws }) (edited n set ws s)
+edited-no set ws s e h = given-no (λ m. record { number = m; set = set; words = ws }) _ e h

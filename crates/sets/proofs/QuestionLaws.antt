@@ -12,7 +12,7 @@ use Rattle.word_bits.specs.Counts.{some}
 use Rattle.word_bits.proofs.Order.{lt-or-le}
 use Rattle.word_bits.proofs.Quantifiers.{some-yes, some-no, none-of}
 use Rattle.sets.specs.Members.{wordsOf, bitOf}
-use Rattle.sets.specs.Questions.{first, lengthQuestion, wordsQuestion, strayQuestion, questions, positionQuestion, newLengthQuestion, roomQuestion, newQuestions}
+use Rattle.sets.specs.Questions.{first, lengthQuestion, wordsQuestion, strayQuestion, questions, bothQuestions, positionQuestion, newLengthQuestion, roomQuestion, newQuestions}
 use Rattle.sets.specs.declared.fixed_bit_set.FixedBitSet.{FixedBitSet}
 
 -- a number that is not 0 is the first; after a 0 the next one counts
@@ -96,6 +96,17 @@ module _ (set : FixedBitSet) (ws : List ℕ) where
       go (inl a) w = absurd (omega (arith, question-1 a))
       go (inr a) (inl b) = absurd (omega (arith, question-2 a b))
       go (inr a) (inr b) = record { small = a; enough = b; clean = clear (sym (question-by a b) ∙ e) }
+
+-- both sets pass questions 1 to 3
+pub record BothValid (a : FixedBitSet) (ws : List ℕ) (b : FixedBitSet) (vs : List ℕ) : Type 0 where
+  pub one : Valid a ws
+  pub two : Valid b vs
+
+pub both-valid : (a : FixedBitSet) (ws : List ℕ) (b : FixedBitSet) (vs : List ℕ) → bothQuestions a ws b vs ≡ 0 → BothValid a ws b vs
+unfolding bothQuestions
+both-valid a ws b vs e =
+    let q = first-both (questions a ws) (questions b vs) e in
+    record { one = valid a ws (q .0); two = valid b vs (q .1) }
 
 -- ---- question 4
 

@@ -1,6 +1,7 @@
 -- The rules of `len`, `is_empty` and `as_slice`.
-use mathlib.Core.List.{List, []}
+use mathlib.Core.List.{List}
 use Prim.Native.Nat.{ℕ}
+use denote.Ref.{RefT, now}
 use lib.Dec.{eqb}
 use lib.ListN.{take, length}
 use Rattle.sets.specs.Members.{wordsOf, empty, read, setOf}
@@ -18,9 +19,21 @@ lenRule set ws = counted (questions set ws) (set .length)
 abbrev pub isEmptyRule : FixedBitSet → List ℕ → Told
 isEmptyRule set ws = told (questions set ws) (eqb (set .length) 0)
 
--- the first W words as a part of the lent slice, the empty part where refused
-abbrev pub asSliceRule : FixedBitSet → List ℕ → List ℕ
-asSliceRule set ws = given (questions set ws) (λ m. []) (take (wordsOf (set .length)) ws)
+-- a part of a lent slice: the place where it starts, and its words
+pub record SlicePart : Type 0 where
+  pub start : ℕ × ℕ
+  pub words : List ℕ
+
+abbrev pub slicePart : RefT (List ℕ) → SlicePart
+slicePart r = record { start = r .ptr; words = now r }
+
+-- the first n words of a lent slice, from the slice's own start
+abbrev pub firstWords : RefT (List ℕ) → ℕ → SlicePart
+firstWords slice n = record { start = slice .ptr; words = take n (now slice) }
+
+-- the first W words as a part of the lent slice, the empty part of it where refused
+abbrev pub asSliceRule : FixedBitSet → RefT (List ℕ) → SlicePart
+asSliceRule set slice = given (questions set (now slice)) (λ m. firstWords slice 0) (firstWords slice (wordsOf (set .length)))
 
 -- a fresh set of n bits has no members; refused, its length is 0
 abbrev pub withCapacityRule : ℕ → List ℕ → Outcome

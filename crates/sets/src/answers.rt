@@ -18,3 +18,21 @@ pub struct Counted {
     pub number: u64,
     pub count: usize,
 }
+
+// A position, or none.
+pub enum Position {
+    At(usize),
+    Nothing,
+}
+
+pub struct Found {
+    pub number: u64,
+    pub at: Position,
+}
+
+// The record of a part of a walk: what is left of it are its positions from low up to high, which is not included.
+#[repr(C)]
+pub struct Part {
+    pub low: usize,
+    pub high: usize,
+}

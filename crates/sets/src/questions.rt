@@ -1,9 +1,10 @@
+use crate::answers::Part;
 use crate::fixed_bit_set::FixedBitSet;
 use crate::sizes::blocks_of;
 use word_bits::low_mask;
 ghost use mathlib.Core.Path.{_≡_};
 ghost use lib.ListN.{length};
-ghost use Rattle.sets.specs.Questions.{questions, positionQuestion, newQuestions};
+ghost use Rattle.sets.specs.Questions.{questions, positionQuestion, rangeQuestion, partQuestion, positionQuestions, rangeQuestions, partQuestions, newQuestions, bothQuestions};
 
 // Questions 1 to 3. Only the last word can have a bit from the length up, and only where the length is no multiple of 64.
 pub fn check(set: FixedBitSet, words: &[u64]) -> u64
@@ -32,6 +33,19 @@ pub fn ask_position(set: FixedBitSet, bit: usize) -> u64
     if bit < set.length { 0 } else { 4 }
 }
 
+// Question 5.
+pub fn ask_range(start: usize, end: usize, length: usize) -> u64
+    ensures { λ r. ⌜ r ≡ rangeQuestion start end length ⌝ }
+{
+    if end < start {
+        return 5;
+    }
+    if length < end {
+        return 5;
+    }
+    0
+}
+
 // Questions 6 and 7.
 pub fn ask_new(bits: usize, words: &[u64]) -> u64
     ensures { λ r. ⌜ r ≡ newQuestions bits (length (now (words .entry))) ⌝ }
@@ -43,4 +57,61 @@ pub fn ask_new(bits: usize, words: &[u64]) -> u64
         return 7;
     }
     0
+}
+
+// Question 8.
+pub fn ask_part(set: FixedBitSet, part: Part) -> u64
+    ensures { λ r. ⌜ r ≡ partQuestion set part ⌝ }
+{
+    if part.high < part.low {
+        return 8;
+    }
+    if set.length < part.high {
+        return 8;
+    }
+    0
+}
+
+// Questions 1 to 3, then 4.
+pub fn check_position(set: FixedBitSet, words: &[u64], bit: usize) -> u64
+    ensures { λ r. ⌜ r ≡ positionQuestions set (now (words .entry)) bit ⌝ }
+{
+    let number = check(set, words);
+    if number != 0 {
+        return number;
+    }
+    ask_position(set, bit)
+}
+
+// Questions 1 to 3, then 5.
+pub fn check_range(set: FixedBitSet, words: &[u64], start: usize, end: usize) -> u64
+    ensures { λ r. ⌜ r ≡ rangeQuestions set (now (words .entry)) start end ⌝ }
+{
+    let number = check(set, words);
+    if number != 0 {
+        return number;
+    }
+    ask_range(start, end, set.length)
+}
+
+// Questions 1 to 3, then 8.
+pub fn check_part(set: FixedBitSet, words: &[u64], part: Part) -> u64
+    ensures { λ r. ⌜ r ≡ partQuestions set (now (words .entry)) part ⌝ }
+{
+    let number = check(set, words);
+    if number != 0 {
+        return number;
+    }
+    ask_part(set, part)
+}
+
+// Questions 1 to 3 of the first set, then of the second.
+pub fn check_both(a: FixedBitSet, words: &[u64], b: FixedBitSet, other: &[u64]) -> u64
+    ensures { λ r. ⌜ r ≡ bothQuestions a (now (words .entry)) b (now (other .entry)) ⌝ }
+{
+    let number = check(a, words);
+    if number != 0 {
+        return number;
+    }
+    check(b, other)
 }

@@ -5,7 +5,7 @@ use crate::questions::check;
 use crate::sizes::blocks_of;
 ghost use mathlib.Core.Path.{_≡_};
 ghost use Rattle.sets.specs.Questions.{questions};
-ghost use Rattle.sets.specs.Rules.{lenRule, isEmptyRule, asSliceRule};
+ghost use Rattle.sets.specs.Rules.{lenRule, isEmptyRule, slicePart, asSliceRule};
 
 // The length in bits.
 pub fn len(set: FixedBitSet, words: &[u64]) -> Counted
@@ -37,7 +37,7 @@ pub fn is_empty(set: FixedBitSet, words: &[u64]) -> Told
 
 // The words of the set, as a part of the lent slice.
 pub fn as_slice(set: FixedBitSet, words: &[u64]) -> &[u64]
-    ensures { λ r. ⌜ now r ≡ asSliceRule set (now (words .entry)) ⌝ }
+    ensures { λ r. ⌜ slicePart r ≡ asSliceRule set (words .entry) ⌝ }
 {
     if check(set, words) != 0 {
         return &words[..0];

@@ -19,7 +19,7 @@ use Rattle.sets.specs.declared.fixed_bit_set.FixedBitSet.{FixedBitSet}
 use Rattle.sets.proofs.QuestionLaws.{Valid}
 use Rattle.sets.proofs.ReadLaws.{read-above, read-digit}
 use Rattle.sets.proofs.WordLaws.{word-of}
-use Rattle.sets.specs.declared.found.Position.the-variants.{At, Nothing}
+use Rattle.sets.specs.declared.answers.Position.the-variants.{At, Nothing}
 use Rattle.tests.specs.Tests.{least, greatest}
 
 -- ---- of any set

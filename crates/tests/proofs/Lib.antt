@@ -1,7 +1,6 @@
 pub mod RowLaws
 pub mod ScanLaws
 pub mod PartLaws
-pub mod AskLaws
 pub mod TestLaws
 pub mod RangeTestLaws
 pub mod RunLaws

@@ -26,22 +26,22 @@ meets start end h = go (lt-or-le start end)
     go (inl l) = let e = end-block start end l in record { some = l; stop = omega arith; tight = omega arith }
     go (inr g) = absurd (omega (arith, end-block-empty start end g))
 
-abbrev pub part : ℕ → ℕ → (ℕ → Bool) → ℕ → Bool
-part start end f p = covers start end p && f p
+abbrev pub inRange : ℕ → ℕ → (ℕ → Bool) → ℕ → Bool
+inRange start end f p = covers start end p && f p
 
 module _ (start end : ℕ) (f : ℕ → Bool) where
-  pub part-below : (p : ℕ) → p < start → part start end f p ≡ false
+  pub part-below : (p : ℕ) → p < start → inRange start end f p ≡ false
   part-below p h = ap (λ (t : Bool). t && f p) (covers-below start end p h)
 
-  pub part-above : (p : ℕ) → end ≤ p → part start end f p ≡ false
+  pub part-above : (p : ℕ) → end ≤ p → inRange start end f p ≡ false
   part-above p h = ap (λ (t : Bool). t && f p) (covers-above start end p h)
 
-  pub part-inside : (p : ℕ) → start ≤ p → p < end → part start end f p ≡ f p
+  pub part-inside : (p : ℕ) → start ≤ p → p < end → inRange start end f p ≡ f p
   part-inside p a b = ap (λ (t : Bool). t && f p) (covers-yes start end p a b)
 
 -- word k of the row, under the mask
 module _ (start end k w : ℕ) (f : ℕ → Bool) (same : (j : ℕ) → j < 64 → digit w j ≡ f (k * 64 + j)) where
-  pub masked-digit : (j : ℕ) → j < 64 → digit (bitAnd w (rangeMask start end k)) j ≡ part start end f (k * 64 + j)
+  pub masked-digit : (j : ℕ) → j < 64 → digit (bitAnd w (rangeMask start end k)) j ≡ inRange start end f (k * 64 + j)
   masked-digit j l =
       digit-and w (rangeMask start end k) j ∙ ap₂ _&&_ (same j l) (digit-word (covers start end) k j l)
       ∙ and-comm (f (k * 64 + j)) (covers start end (k * 64 + j))

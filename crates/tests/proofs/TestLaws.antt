@@ -23,36 +23,36 @@ use Rattle.masks.proofs.MaskLaws.{mask-whole}
 use Rattle.masks.proofs.RangeLaws.{end-block}
 use Rattle.sets.specs.Members.{bitOf}
 use Rattle.sets.proofs.WordLaws.{bit-at}
-use Rattle.tests.proofs.PartLaws.{part, part-below, part-above, masked-digit}
+use Rattle.tests.proofs.PartLaws.{part-below, part-above, masked-digit, inRange}
 use Rattle.tests.specs.Helpers.{differs}
 
--- ---- the part of a row that a range covers
+-- ---- the inRange of a row that a range covers
 
 module _ (start end : ℕ) (f : ℕ → Bool) where
-  some-part : (p : ℕ) → part start end f p ≡ true → some end (part start end f) ≡ true
+  some-part : (p : ℕ) → inRange start end f p ≡ true → some end (inRange start end f) ≡ true
   some-part p y = go (lt-or-le p end)
     where
-      go : (p < end) ⊎ (end ≤ p) → some end (part start end f) ≡ true
-      go (inl l) = some-yes end (part start end f) p l y
+      go : (p < end) ⊎ (end ≤ p) → some end (inRange start end f) ≡ true
+      go (inl l) = some-yes end (inRange start end f) p l y
       go (inr g) = absurd (false≢true (sym (part-above start end f p g) ∙ y))
 
   -- no yes in the words that the range meets
-  none-in-words : ((k j : ℕ) → start / 64 ≤ k → k < endBlock start end → j < 64 → part start end f (k * 64 + j) ≡ false)
-      → some end (part start end f) ≡ false
-  none-in-words zs = some-no end (part start end f) (λ p h. go p h (lt-or-le p start))
+  none-in-words : ((k j : ℕ) → start / 64 ≤ k → k < endBlock start end → j < 64 → inRange start end f (k * 64 + j) ≡ false)
+      → some end (inRange start end f) ≡ false
+  none-in-words zs = some-no end (inRange start end f) (λ p h. go p h (lt-or-le p start))
     where
-      go : (p : ℕ) → p < end → (p < start) ⊎ (start ≤ p) → part start end f p ≡ false
+      go : (p : ℕ) → p < end → (p < start) ⊎ (start ≤ p) → inRange start end f p ≡ false
       go p h (inl l) = part-below start end f p l
       go p h (inr g) =
           let e = end-block start end (omega arith) in
-          ap (part start end f) (sym (div-add-mod' p 64)) ∙ zs (p / 64) (p % 64) (omega arith) (omega arith) (omega arith)
+          ap (inRange start end f) (sym (div-add-mod' p 64)) ∙ zs (p / 64) (p % 64) (omega arith) (omega arith) (omega arith)
 
 -- word k of the row, under the mask
 module _ (start end k w : ℕ) (f : ℕ → Bool) (same : (j : ℕ) → j < 64 → digit w j ≡ f (k * 64 + j)) where
-  masked-none : bitAnd w (rangeMask start end k) ≡ 0 → (j : ℕ) → j < 64 → part start end f (k * 64 + j) ≡ false
+  masked-none : bitAnd w (rangeMask start end k) ≡ 0 → (j : ℕ) → j < 64 → inRange start end f (k * 64 + j) ≡ false
   masked-none z j l = sym (masked-digit start end k w f same j l) ∙ ap (λ (y : ℕ). digit y j) z ∙ digit-of-zero j
 
-  masked-some : w < 2 ^ 64 → (bitAnd w (rangeMask start end k) ≡ 0 → ⊥) → some end (part start end f) ≡ true
+  masked-some : w < 2 ^ 64 → (bitAnd w (rangeMask start end k) ≡ 0 → ⊥) → some end (inRange start end f) ≡ true
   masked-some fit n =
       let x : ℕ = bitAnd w (rangeMask start end k) in
       let low : zerosBelow 64 (digit x) < 64 = below-lt 64 x (omega arith) (lt-of-le-of-lt (and-le-l w (rangeMask start end k)) fit) in
@@ -74,7 +74,7 @@ module _ (start end skip : ℕ) (ws : List ℕ) where
       let r : j ≡ (k * 64 + j) % 64 = omega arith in
       digit-xor (getD ws k 0) skip j ∙ ap₂ xor (sym (bit-at ws k j l)) (ap (digit skip) r)
 
-  none-at : (k : ℕ) → unlike start end skip ws k ≡ 0 → (j : ℕ) → j < 64 → part start end (differs ws skip) (k * 64 + j) ≡ false
+  none-at : (k : ℕ) → unlike start end skip ws k ≡ 0 → (j : ℕ) → j < 64 → inRange start end (differs ws skip) (k * 64 + j) ≡ false
   none-at k = masked-none start end k (bitXor (getD ws k 0) skip) (differs ws skip) (differs-word k)
 
   none-like : (k : ℕ) → getD ws k 0 ≡ skip → unlike start end skip ws k ≡ 0
@@ -82,23 +82,23 @@ module _ (start end skip : ℕ) (ws : List ℕ) where
       ap (λ (w : ℕ). bitAnd (bitXor w skip) (rangeMask start end k)) e ∙ ap (λ (x : ℕ). bitAnd x (rangeMask start end k)) (xor-self skip)
       ∙ and-zero-l (rangeMask start end k)
 
-  pub other-empty : endBlock start end ≤ start / 64 → some end (part start end (differs ws skip)) ≡ false
+  pub other-empty : endBlock start end ≤ start / 64 → some end (inRange start end (differs ws skip)) ≡ false
   other-empty h = none-in-words start end (differs ws skip) (λ k j a b l. absurd (omega arith))
 
   pub other-one : endBlock start end - 1 ≤ start / 64 → unlike start end skip ws (start / 64) ≡ 0
-      → some end (part start end (differs ws skip)) ≡ false
+      → some end (inRange start end (differs ws skip)) ≡ false
   other-one h z =
       none-in-words start end (differs ws skip)
       (λ k j a b l. let same : k ≡ start / 64 = omega arith in rw same (none-at (start / 64) z j l))
 
   module _ (fits : skip < 2 ^ 64) where
-    pub other-at : (k : ℕ) → getD ws k 0 < 2 ^ 64 → (unlike start end skip ws k ≡ 0 → ⊥) → some end (part start end (differs ws skip)) ≡ true
+    pub other-at : (k : ℕ) → getD ws k 0 < 2 ^ 64 → (unlike start end skip ws k ≡ 0 → ⊥) → some end (inRange start end (differs ws skip)) ≡ true
     other-at k fit n =
         masked-some start end k (bitXor (getD ws k 0) skip) (differs ws skip) (differs-word k) (xor-lt 64 (getD ws k 0) skip fit fits) n
 
     -- a word between the first and the last is looked at whole
     pub other-between : (k : ℕ) → start / 64 < k → k + 1 < endBlock start end → getD ws k 0 < 2 ^ 64 → (getD ws k 0 ≡ skip → ⊥)
-        → some end (part start end (differs ws skip)) ≡ true
+        → some end (inRange start end (differs ws skip)) ≡ true
     other-between k a b fit n =
         let x : ℕ = bitXor (getD ws k 0) skip in
         other-at k fit
@@ -108,16 +108,16 @@ module _ (start end skip : ℕ) (ws : List ℕ) where
     -- where the words before the last are alike, the last decides
     pub other-last : (last : ℕ) → last + 1 ≡ endBlock start end → getD ws last 0 < 2 ^ 64 → unlike start end skip ws (start / 64) ≡ 0
         → ((k : ℕ) → start / 64 + 1 ≤ k → k < last → getD ws k 0 ≡ skip)
-        → not (eqb (unlike start end skip ws last) 0) ≡ some end (part start end (differs ws skip))
+        → not (eqb (unlike start end skip ws last) 0) ≡ some end (inRange start end (differs ws skip))
     other-last last e fit z mid = go (eqb (unlike start end skip ws last) 0) refl
       where
         at : unlike start end skip ws last ≡ 0 → (k j : ℕ) → start / 64 ≤ k → k < endBlock start end → j < 64
-            → (start / 64 < k) ⊎ (k ≤ start / 64) → (k < last) ⊎ (last ≤ k) → part start end (differs ws skip) (k * 64 + j) ≡ false
+            → (start / 64 < k) ⊎ (k ≤ start / 64) → (k < last) ⊎ (last ≤ k) → inRange start end (differs ws skip) (k * 64 + j) ≡ false
         at y k j a b l (inr h) w = let same : k ≡ start / 64 = omega arith in rw same (none-at (start / 64) z j l)
         at y k j a b l (inl h) (inl m) = none-at k (none-like k (mid k (omega arith) m)) j l
         at y k j a b l (inl h) (inr m) = let same : k ≡ last = omega arith in rw same (none-at last y j l)
 
-        go : (t : Bool) → eqb (unlike start end skip ws last) 0 ≡ t → not t ≡ some end (part start end (differs ws skip))
+        go : (t : Bool) → eqb (unlike start end skip ws last) 0 ≡ t → not t ≡ some end (inRange start end (differs ws skip))
         go true y =
             sym (none-in-words start end (differs ws skip)
             (λ k j a b l. at (eqb-true (unlike start end skip ws last) 0 y) k j a b l (lt-or-le (start / 64) k) (lt-or-le k last)))

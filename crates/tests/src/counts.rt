@@ -1,7 +1,7 @@
-use crate::positions::ask;
 use masks::Masks;
 use sets::Counted;
 use sets::FixedBitSet;
+use sets::check_range;
 ghost use mathlib.Core.Bool.{_&&_};
 ghost use mathlib.Core.Path.{_≡_};
 ghost use Prim.Native.Nat.{ℕ, _+_, _-_, _*_, _≤_};
@@ -46,9 +46,9 @@ fn ones_of(words: &[u64], start: usize, end: usize) -> usize
 
 // How many positions of the range are members.
 pub fn count_ones(set: FixedBitSet, words: &[u64], start: usize, end: usize) -> Counted
-    ensures { λ r. ⌜ r ≡ countOnesRule set start end (now (words .entry)) ⌝ }
+    ensures { λ r. ⌜ r ≡ countOnesRule set (now (words .entry)) start end ⌝ }
 {
-    let number = ask(set, words, start, end);
+    let number = check_range(set, words, start, end);
     if number != 0 {
         return Counted { number, count: 0 };
     }
@@ -60,9 +60,9 @@ pub fn count_ones(set: FixedBitSet, words: &[u64], start: usize, end: usize) -> 
 
 // How many positions of the range are no members.
 pub fn count_zeroes(set: FixedBitSet, words: &[u64], start: usize, end: usize) -> Counted
-    ensures { λ r. ⌜ r ≡ countZeroesRule set start end (now (words .entry)) ⌝ }
+    ensures { λ r. ⌜ r ≡ countZeroesRule set (now (words .entry)) start end ⌝ }
 {
-    let number = ask(set, words, start, end);
+    let number = check_range(set, words, start, end);
     if number != 0 {
         return Counted { number, count: 0 };
     }

@@ -9,7 +9,6 @@ pub use counts::count_ones;
 pub use counts::count_zeroes;
 pub use extremes::maximum;
 pub use extremes::minimum;
-pub use positions::ask;
 pub use positions::contains;
 pub use ranges::contains_all_in_range;
 pub use ranges::contains_any_in_range;

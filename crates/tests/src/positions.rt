@@ -1,25 +1,14 @@
-use masks::ask_range;
 use sets::FixedBitSet;
 use sets::Told;
 use sets::check;
 use sets::member;
 ghost use mathlib.Core.Path.{_≡_};
-ghost use Rattle.tests.specs.Rules.{rangeQuestions, containsRule};
-
-// Questions 1 to 3, then 5.
-pub fn ask(set: FixedBitSet, words: &[u64], start: usize, end: usize) -> u64
-    ensures { λ r. ⌜ r ≡ rangeQuestions set start end (now (words .entry)) ⌝ }
-{
-    let number = check(set, words);
-    if number != 0 {
-        return number;
-    }
-    ask_range(start, end, set.length)
-}
+ghost use Rattle.tests.specs.Rules.{containsRule};
+ghost use Rattle.sets.specs.Questions.{rangeQuestions};
 
 // Whether a position is a member.
 pub fn contains(set: FixedBitSet, words: &[u64], bit: usize) -> Told
-    ensures { λ r. ⌜ r ≡ containsRule set bit (now (words .entry)) ⌝ }
+    ensures { λ r. ⌜ r ≡ containsRule set (now (words .entry)) bit ⌝ }
 {
     let number = check(set, words);
     if number != 0 {

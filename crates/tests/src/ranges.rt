@@ -1,9 +1,9 @@
-use crate::positions::ask;
 use crate::scans::first_other;
 use masks::Masks;
 use sets::FixedBitSet;
 use sets::Told;
 use sets::check;
+use sets::check_range;
 ghost use mathlib.Core.Bool.{_&&_};
 ghost use mathlib.Core.Path.{_≡_};
 ghost use Prim.Native.Nat.{ℕ, _*_, _≤_};
@@ -38,9 +38,9 @@ fn some_other(words: &[u64], start: usize, end: usize, skip: u64) -> bool
 
 // Whether each position of the range is a member.
 pub fn contains_all_in_range(set: FixedBitSet, words: &[u64], start: usize, end: usize) -> Told
-    ensures { λ r. ⌜ r ≡ containsAllRule set start end (now (words .entry)) ⌝ }
+    ensures { λ r. ⌜ r ≡ containsAllRule set (now (words .entry)) start end ⌝ }
 {
-    let number = ask(set, words, start, end);
+    let number = check_range(set, words, start, end);
     if number != 0 {
         return Told { number, yes: false };
     }
@@ -52,9 +52,9 @@ pub fn contains_all_in_range(set: FixedBitSet, words: &[u64], start: usize, end:
 
 // Whether some position of the range is a member.
 pub fn contains_any_in_range(set: FixedBitSet, words: &[u64], start: usize, end: usize) -> Told
-    ensures { λ r. ⌜ r ≡ containsAnyRule set start end (now (words .entry)) ⌝ }
+    ensures { λ r. ⌜ r ≡ containsAnyRule set (now (words .entry)) start end ⌝ }
 {
-    let number = ask(set, words, start, end);
+    let number = check_range(set, words, start, end);
     if number != 0 {
         return Told { number, yes: false };
     }

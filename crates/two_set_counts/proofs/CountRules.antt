@@ -7,21 +7,21 @@ use Rattle.sets.specs.Outcomes.{counted}
 use Rattle.sets.specs.declared.fixed_bit_set.FixedBitSet.{FixedBitSet}
 use Rattle.sets.specs.declared.answers.Counted.{Counted}
 use Rattle.sets.proofs.ReadLaws.{read-clipped}
-use Rattle.two_sets.specs.Rules.{bothQuestions}
+use Rattle.sets.specs.Questions.{bothQuestions}
 use Rattle.blocks.specs.declared.operation.Operation.the-variants.{Union, Intersection, Difference, SymmetricDifference}
 use Rattle.two_set_counts.specs.Helpers.{jointCountRule}
 use Rattle.two_set_counts.specs.Rules.{unionCountRule, intersectionCountRule, differenceCountRule, symmetricDifferenceCountRule}
 use Rattle.two_set_counts.proofs.ListLaws.{union-size, intersection-size, difference-size, symmetric-difference-size}
 
 module _ (a : FixedBitSet) (ws : List ℕ) (b : FixedBitSet) (vs : List ℕ) {r : Counted} where
-  pub union-rule : r ≡ jointCountRule Union a ws b vs → r ≡ unionCountRule a ws b vs
+  pub union-rule : r ≡ jointCountRule a ws b vs Union → r ≡ unionCountRule a ws b vs
   union-rule e = e ∙ ap (counted (bothQuestions a ws b vs)) (union-size (read ws a) (read vs b) (read-clipped ws a) (read-clipped vs b))
 
-  pub intersection-rule : r ≡ jointCountRule Intersection a ws b vs → r ≡ intersectionCountRule a ws b vs
+  pub intersection-rule : r ≡ jointCountRule a ws b vs Intersection → r ≡ intersectionCountRule a ws b vs
   intersection-rule e = e ∙ ap (counted (bothQuestions a ws b vs)) (intersection-size (read ws a) (read vs b) (read-clipped ws a))
 
-  pub difference-rule : r ≡ jointCountRule Difference a ws b vs → r ≡ differenceCountRule a ws b vs
+  pub difference-rule : r ≡ jointCountRule a ws b vs Difference → r ≡ differenceCountRule a ws b vs
   difference-rule e = e ∙ ap (counted (bothQuestions a ws b vs)) (difference-size (read ws a) (read vs b) (read-clipped ws a))
 
-  pub symmetric-difference-rule : r ≡ jointCountRule SymmetricDifference a ws b vs → r ≡ symmetricDifferenceCountRule a ws b vs
+  pub symmetric-difference-rule : r ≡ jointCountRule a ws b vs SymmetricDifference → r ≡ symmetricDifferenceCountRule a ws b vs
   symmetric-difference-rule e = e ∙ ap (counted (bothQuestions a ws b vs)) (symmetric-difference-size (read ws a) (read vs b) (read-clipped ws a) (read-clipped vs b))

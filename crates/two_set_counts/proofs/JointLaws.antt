@@ -11,17 +11,15 @@ use Rattle.word_bits.specs.Counts.{count}
 use Rattle.word_bits.proofs.Ones.{count-add, count-ext, count-none, count-le}
 use Rattle.word_bits.proofs.Order.{lt-or-le}
 use Rattle.sets.specs.Members.{Members, wordsOf, bitOf, read}
-use Rattle.sets.specs.Questions.{questions}
+use Rattle.sets.specs.Questions.{questions, bothQuestions}
 use Rattle.sets.specs.declared.fixed_bit_set.FixedBitSet.{FixedBitSet}
-use Rattle.sets.proofs.QuestionLaws.{valid-yes}
+use Rattle.sets.proofs.QuestionLaws.{valid-yes, both-valid}
 use Rattle.sets.proofs.ReadLaws.{read-bit, read-clipped}
 use Rattle.sets.proofs.WordLaws.{words-hold}
 use Rattle.sets.proofs.WriteLaws.{Clipped}
 use Rattle.blocks.specs.Operations.{joined}
-use Rattle.two_sets.specs.Rules.{bothQuestions}
 use Rattle.blocks.specs.declared.operation.Operation.{Operation}
 use Rattle.blocks.specs.declared.operation.Operation.the-variants.{Union, Intersection, Difference, SymmetricDifference}
-use Rattle.two_sets.proofs.SetJoins.{both-valid}
 use Rattle.tests.proofs.RowLaws.{count-clip}
 use Rattle.two_set_counts.specs.Helpers.{jointOnes, onesFrom, onesBeyond}
 

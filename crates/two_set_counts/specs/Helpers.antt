@@ -9,7 +9,7 @@ use Rattle.sets.specs.Outcomes.{counted}
 use Rattle.sets.specs.declared.fixed_bit_set.FixedBitSet.{FixedBitSet}
 use Rattle.sets.specs.declared.answers.Counted.{Counted}
 use Rattle.blocks.specs.Operations.{joined}
-use Rattle.two_sets.specs.Rules.{bothQuestions}
+use Rattle.sets.specs.Questions.{bothQuestions}
 use Rattle.blocks.specs.declared.operation.Operation.{Operation}
 
 -- the bits of the words f 0, f 1 and so on
@@ -21,8 +21,8 @@ abbrev pub jointOnes : Operation → Members → Members → ℕ
 jointOnes op s o = count (max (s .len) (o .len)) (λ p. joined op (s .has p) (o .has p))
 
 -- the number of the questions first
-abbrev pub jointCountRule : Operation → FixedBitSet → List ℕ → FixedBitSet → List ℕ → Counted
-jointCountRule op a ws b vs = counted (bothQuestions a ws b vs) (jointOnes op (read ws a) (read vs b))
+abbrev pub jointCountRule : FixedBitSet → List ℕ → FixedBitSet → List ℕ → Operation → Counted
+jointCountRule a ws b vs op = counted (bothQuestions a ws b vs) (jointOnes op (read ws a) (read vs b))
 
 -- how many members are at `start` or above it
 abbrev pub onesFrom : ℕ → Members → ℕ

@@ -6,7 +6,7 @@ use Rattle.sets.specs.Members.{read}
 use Rattle.sets.specs.Outcomes.{counted}
 use Rattle.sets.specs.declared.fixed_bit_set.FixedBitSet.{FixedBitSet}
 use Rattle.sets.specs.declared.answers.Counted.{Counted}
-use Rattle.two_sets.specs.Rules.{bothQuestions}
+use Rattle.sets.specs.Questions.{bothQuestions}
 use Rattle.two_set_counts.specs.Lists.{unionList, intersectionList, differenceList, symmetricDifferenceList}
 
 -- each count is the size of the list of that name

@@ -5,7 +5,7 @@ use blocks::lesser;
 use sets::Counted;
 use sets::FixedBitSet;
 use sets::blocks_of;
-use two_sets::check_both;
+use sets::check_both;
 ghost use mathlib.Core.Path.{_≡_};
 ghost use Rattle.two_set_counts.specs.Helpers.{jointCountRule};
 ghost use Rattle.two_set_counts.specs.Rules.{unionCountRule, intersectionCountRule, differenceCountRule, symmetricDifferenceCountRule};
@@ -18,7 +18,7 @@ fn joint_count(
     other: &[u64],
     operation: Operation,
 ) -> Counted
-    ensures { λ r. ⌜ r ≡ jointCountRule operation a (now (words .entry)) b (now (other .entry)) ⌝ }
+    ensures { λ r. ⌜ r ≡ jointCountRule a (now (words .entry)) b (now (other .entry)) operation ⌝ }
 {
     let number = check_both(a, words, b, other);
     if number != 0 {

@@ -1,15 +1,11 @@
--- The three parts of a join, in place and into a third buffer, and what both sets' questions tell. Assumes nothing.
+-- The three parts of a join, in place and into a third buffer. Assumes nothing.
 use mathlib.Core.Path.{_≡_, refl, sym, ap, ap₂, _∙_}
 use mathlib.Core.List.{List}
 use Prim.Native.Nat.{ℕ, _≤_, _<_, min, max}
 use native.Mathlib.Omega.{arith}
 use lib.ListN.{length, getD}
 use Rattle.blocks.specs.Sweeps.{swept}
-use Rattle.sets.specs.Questions.{questions}
-use Rattle.sets.specs.declared.fixed_bit_set.FixedBitSet.{FixedBitSet}
-use Rattle.sets.proofs.QuestionLaws.{Valid, valid, first-both}
 use Rattle.blocks.specs.Operations.{joinedWord, padded}
-use Rattle.two_sets.specs.Rules.{bothQuestions}
 use Rattle.blocks.specs.declared.operation.Operation.{Operation}
 use Rattle.blocks.proofs.BlockJoins.{padded-in, padded-out, three-sweeps}
 
@@ -51,14 +47,3 @@ module _ (op : Operation) (blocks others total : ℕ) (ws vs : List ℕ) where
         (λ k w. joinedWord op (getD ws k 0) (getD vs k 0)) (λ k w. joinedWord op (getD ws k 0) 0) (λ k w. joinedWord op 0 (getD vs k 0)) target out
         room (omega arith) (omega arith) (omega arith) (omega arith) (omega arith) (λ i a b d. (omega arith, omega arith))
         (λ i a. both-have i (omega arith) (omega arith)) (λ i a b. first-has i (omega arith) (omega arith)) (λ i a b. second-has i a (omega arith))
-
--- both sets pass questions 1 to 3
-pub record BothValid (a : FixedBitSet) (ws : List ℕ) (b : FixedBitSet) (vs : List ℕ) : Type 0 where
-  pub one : Valid a ws
-  pub two : Valid b vs
-
-pub both-valid : (a : FixedBitSet) (ws : List ℕ) (b : FixedBitSet) (vs : List ℕ) → bothQuestions a ws b vs ≡ 0 → BothValid a ws b vs
-unfolding bothQuestions
-both-valid a ws b vs e =
-    let q = first-both (questions a ws) (questions b vs) e in
-    record { one = valid a ws (q .0); two = valid b vs (q .1) }

@@ -8,27 +8,16 @@ use sets::Edited;
 use sets::FixedBitSet;
 use sets::ask_new;
 use sets::blocks_of;
-use sets::check;
+use sets::check_both;
 ghost use mathlib.Core.Path.{_≡_};
 ghost use Prim.Native.Nat.{ℕ, _≤_, max};
 ghost use lib.ListN.{length};
 ghost use Rattle.blocks.specs.Sweeps.{swept};
 ghost use Rattle.sets.specs.Members.{read};
-ghost use Rattle.sets.specs.Outcomes.{outcome, edited};
+ghost use Rattle.sets.specs.Outcomes.{outcome};
 ghost use Rattle.blocks.specs.Operations.{joinedWord, padded};
 ghost use Rattle.two_sets.specs.Combined.{growing, keeping};
-ghost use Rattle.two_sets.specs.Rules.{bothQuestions, growingQuestions, unionWithRule, symmetricDifferenceWithRule, intersectWithRule, differenceWithRule};
-
-// Questions 1 to 3 of the first set, then of the second.
-pub fn check_both(a: FixedBitSet, words: &[u64], b: FixedBitSet, other: &[u64]) -> u64
-    ensures { λ r. ⌜ r ≡ bothQuestions a (now (words .entry)) b (now (other .entry)) ⌝ }
-{
-    let number = check(a, words);
-    if number != 0 {
-        return number;
-    }
-    check(b, other)
-}
+ghost use Rattle.two_sets.specs.Rules.{growingWith, keepingWith, unionWithRule, symmetricDifferenceWithRule, intersectWithRule, differenceWithRule};
 
 // The words of a result of `total` words, from the first set's `blocks` words and the second's `others`.
 fn join_in_place(
@@ -48,14 +37,15 @@ fn join_in_place(
     join_second_alone(words, other, blocks, total, operation);
 }
 
-pub fn keep_with(
+// The length is kept.
+fn keep_with(
     a: FixedBitSet,
     words: &mut [u64],
     b: FixedBitSet,
     other: &[u64],
     operation: Operation,
 ) -> Edited
-    ensures { λ r. ⌜ outcome r (now (words .exit)) ≡ edited (bothQuestions a (now (words .entry)) b (now (other .entry))) a (now (words .entry)) (keeping operation (read (now (words .entry)) a) (read (now (other .entry)) b)) ⌝ }
+    ensures { λ r. ⌜ outcome r (now (words .exit)) ≡ keepingWith a (now (words .entry)) b (now (other .entry)) (keeping operation (read (now (words .entry)) a) (read (now (other .entry)) b)) ⌝ }
 {
     let number = check_both(a, words, b, other);
     if number != 0 {
@@ -66,14 +56,15 @@ pub fn keep_with(
     Edited { number: 0, set: a }
 }
 
-pub fn grow_with(
+// The length becomes the larger of the two.
+fn grow_with(
     a: FixedBitSet,
     words: &mut [u64],
     b: FixedBitSet,
     other: &[u64],
     operation: Operation,
 ) -> Edited
-    ensures { λ r. ⌜ outcome r (now (words .exit)) ≡ edited (growingQuestions a (now (words .entry)) b (now (other .entry))) a (now (words .entry)) (growing operation (read (now (words .entry)) a) (read (now (other .entry)) b)) ⌝ }
+    ensures { λ r. ⌜ outcome r (now (words .exit)) ≡ growingWith a (now (words .entry)) b (now (other .entry)) (growing operation (read (now (words .entry)) a) (read (now (other .entry)) b)) ⌝ }
 {
     let number = check_both(a, words, b, other);
     if number != 0 {
@@ -98,12 +89,14 @@ pub fn grow_with(
     }
 }
 
+// The first set becomes the union of the two; 7 is asked of the larger length.
 pub fn union_with(a: FixedBitSet, words: &mut [u64], b: FixedBitSet, other: &[u64]) -> Edited
     ensures { λ r. ⌜ outcome r (now (words .exit)) ≡ unionWithRule a (now (words .entry)) b (now (other .entry)) ⌝ }
 {
     grow_with(a, words, b, other, Operation::Union)
 }
 
+// The first set becomes the symmetric difference of the two; 7 is asked of the larger length.
 pub fn symmetric_difference_with(
     a: FixedBitSet,
     words: &mut [u64],
@@ -115,12 +108,14 @@ pub fn symmetric_difference_with(
     grow_with(a, words, b, other, Operation::SymmetricDifference)
 }
 
+// The first set keeps the members that the second has too.
 pub fn intersect_with(a: FixedBitSet, words: &mut [u64], b: FixedBitSet, other: &[u64]) -> Edited
     ensures { λ r. ⌜ outcome r (now (words .exit)) ≡ intersectWithRule a (now (words .entry)) b (now (other .entry)) ⌝ }
 {
     keep_with(a, words, b, other, Operation::Intersection)
 }
 
+// The first set keeps the members that the second does not have.
 pub fn difference_with(a: FixedBitSet, words: &mut [u64], b: FixedBitSet, other: &[u64]) -> Edited
     ensures { λ r. ⌜ outcome r (now (words .exit)) ≡ differenceWithRule a (now (words .entry)) b (now (other .entry)) ⌝ }
 {

@@ -2,11 +2,8 @@
 mod in_place;
 mod third_buffer;
 
-pub use in_place::check_both;
 pub use in_place::difference_with;
-pub use in_place::grow_with;
 pub use in_place::intersect_with;
-pub use in_place::keep_with;
 pub use in_place::symmetric_difference_with;
 pub use in_place::union_with;
 pub use third_buffer::bitand;

@@ -1,4 +1,3 @@
-use crate::in_place::check_both;
 use blocks::Operation;
 use blocks::change_blocks;
 use blocks::copy_blocks;
@@ -9,6 +8,7 @@ use sets::Edited;
 use sets::FixedBitSet;
 use sets::ask_new;
 use sets::blocks_of;
+use sets::check_both;
 ghost use mathlib.Core.Path.{_≡_};
 ghost use Prim.Native.Nat.{ℕ, _≤_, max, min};
 ghost use lib.ListN.{length, getD};

@@ -59,7 +59,7 @@ function n = record {
 }
 
 abbrev pub found : End → Ones → Stepped
-found e d = walkerRule e (setIn d) (now (d .words)) (partIn d)
+found e d = walkerRule (setIn d) (now (d .words)) (partIn d) e
 
 -- the contract, at either end; both ends have the signature of `next`
 abbrev pub clauses : {M : Type 1} (𝓤 : URA M) → End → Clauses 𝓤 next.ended

@@ -5,7 +5,7 @@ use denote.Ref.{RefT}
 use Rattle.sets.specs.declared.fixed_bit_set.FixedBitSet.{FixedBitSet}
 use Rattle.parts.specs.declared.records.End.{End}
 use Rattle.parts.specs.declared.records.End.the-variants.{Front, Back}
-use Rattle.parts.specs.declared.records.Part.{Part}
+use Rattle.sets.specs.declared.answers.Part.{Part}
 use Rattle.walks.specs.Rules.{onesNextRule, onesNextBackRule}
 use Rattle.walks.specs.declared.answers.Stepped.{Stepped}
 use Rattle.walkers.specs.declared.walker.Ones.{Ones}
@@ -27,6 +27,6 @@ abbrev pub movedWalker : Ones → Part → Ones
 movedWalker w part = record { words = w .words; length = w .length; low = part .low; high = part .high }
 
 -- the step of `ones` at that end
-abbrev pub walkerRule : End → FixedBitSet → List ℕ → Part → Stepped
-walkerRule Front set ws part = onesNextRule set ws part
-walkerRule Back set ws part = onesNextBackRule set ws part
+abbrev pub walkerRule : FixedBitSet → List ℕ → Part → End → Stepped
+walkerRule set ws part Front = onesNextRule set ws part
+walkerRule set ws part Back = onesNextBackRule set ws part

@@ -1,6 +1,6 @@
 use parts::End;
-use parts::Part;
 use sets::FixedBitSet;
+use sets::Part;
 use walks::Stepped;
 use walks::ones_next;
 use walks::ones_next_back;
@@ -9,7 +9,7 @@ ghost use Rattle.walkers.specs.Rules.{walkerRule};
 
 // The step with the walker's fields as plain parameters, in the order of the struct.
 pub(crate) fn step_from(end: End, words: &[u64], length: usize, low: usize, high: usize) -> Stepped
-    ensures { λ r. ⌜ r ≡ walkerRule end (record { length = length }) (now (words .entry)) (record { low = low; high = high }) ⌝ }
+    ensures { λ r. ⌜ r ≡ walkerRule (record { length = length }) (now (words .entry)) (record { low = low; high = high }) end ⌝ }
 {
     let set = FixedBitSet::new(length);
     let part = Part { low, high };

@@ -1,7 +1,7 @@
 use crate::steps::step_from;
 use parts::End;
-use parts::Part;
 use sets::FixedBitSet;
+use sets::Part;
 use walks::Stepped;
 ghost use mathlib.Core.Path.{_≡_};
 ghost use Rattle.walks.specs.Rules.{onesNextRule, onesNextBackRule};
@@ -42,7 +42,7 @@ pub fn moved<'a>(walker: Ones<'a>, part: Part) -> Ones<'a>
 }
 
 pub(crate) fn step<'a>(walker: Ones<'a>, end: End) -> Stepped
-    ensures { λ r. ⌜ r ≡ walkerRule end (setIn (walker .entry)) (now (walker .entry .words)) (partIn (walker .entry)) ⌝ }
+    ensures { λ r. ⌜ r ≡ walkerRule (setIn (walker .entry)) (now (walker .entry .words)) (partIn (walker .entry)) end ⌝ }
 {
     step_from(end, walker.words, walker.length, walker.low, walker.high)
 }
@@ -61,7 +61,7 @@ pub fn next_back<'a>(walker: Ones<'a>) -> Stepped
 
 // One step of a walker over the set that stands at the record.
 pub fn walker_step(set: FixedBitSet, words: &[u64], part: Part, end: End) -> Stepped
-    ensures { λ r. ⌜ r ≡ walkerRule end set (now (words .entry)) part ⌝ }
+    ensures { λ r. ⌜ r ≡ walkerRule set (now (words .entry)) part end ⌝ }
 {
     step(moved(Ones::new(set, words), part), end)
 }

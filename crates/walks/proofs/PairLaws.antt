@@ -1,8 +1,8 @@
 -- The part that is tried first, and the one after it. Assumes nothing.
 use mathlib.Core.Path.{_≡_, refl, ap, _∙_}
 use Prim.Native.Nat.{ℕ}
-use Rattle.sets.specs.declared.found.Position.{Position}
-use Rattle.sets.specs.declared.found.Position.the-variants.{At, Nothing}
+use Rattle.sets.specs.declared.answers.Position.{Position}
+use Rattle.sets.specs.declared.answers.Position.the-variants.{At, Nothing}
 use Rattle.walks.specs.Rules.{PairStep, orElse}
 
 pub or-first : {q : Position} (p : ℕ) (x y : PairStep) → q ≡ At p → orElse q x y ≡ x

@@ -1,49 +1,37 @@
--- The rule of each step of a walk over one set: questions 1 to 3, then 8.
-use mathlib.Core.Bool.{cond, not, _&&_, Bool}
+-- The rule of each step of a walk: a over ws, b over vs.
+use mathlib.Core.Bool.{Bool, not, _&&_}
 use mathlib.Core.List.{List}
 use Prim.Native.Nat.{ℕ}
-use lib.Dec.{leb}
 use Rattle.sets.specs.Members.{read, Members}
 use Rattle.sets.specs.Outcomes.{given}
-use Rattle.sets.specs.Questions.{first, questions}
+use Rattle.sets.specs.Questions.{partQuestions, twoQuestions, pairQuestions}
 use Rattle.sets.specs.declared.fixed_bit_set.FixedBitSet.{FixedBitSet}
-use Rattle.sets.specs.declared.found.Position.the-variants.{Nothing, At}
+use Rattle.sets.specs.declared.answers.Position.the-variants.{Nothing, At}
 use Rattle.parts.specs.Steps.{front, back}
-use Rattle.parts.specs.declared.records.Part.{Part}
+use Rattle.sets.specs.declared.answers.Part.{Part}
 use Rattle.parts.specs.declared.records.Step.{Step}
 use Rattle.walks.specs.declared.answers.Stepped.{Stepped}
-use Rattle.two_sets.specs.Rules.{bothQuestions}
-use Rattle.sets.specs.declared.found.Position.{Position}
+use Rattle.sets.specs.declared.answers.Position.{Position}
 use Rattle.walks.specs.declared.answers.SteppedPair.{SteppedPair}
 
 -- at first 0 and L
 abbrev pub firstPart : FixedBitSet → Part
 firstPart set = record { low = 0; high = set .length }
 
--- 8. Is low <= high <= the length of that part's set?
-unfoldable pub partQuestion : FixedBitSet → Part → ℕ
-partQuestion set part = cond (leb (part .low) (part .high) && leb (part .high) (set .length)) 0 8
-
 -- refused, none and the record as handed in
 abbrev pub stepped : ℕ → Part → Step → Stepped
 stepped n part s = given n (λ m. record { number = m; at = Nothing; part = part }) (record { number = 0; at = s .at; part = s .part })
 
-abbrev pub oneQuestions : FixedBitSet → List ℕ → Part → ℕ
-oneQuestions set ws part = first (questions set ws) (partQuestion set part)
-
 -- `ones`: members of A, rising
 abbrev pub onesNextRule : FixedBitSet → List ℕ → Part → Stepped
-onesNextRule set ws part = stepped (oneQuestions set ws part) part (front (read ws set .has) part)
+onesNextRule set ws part = stepped (partQuestions set ws part) part (front (read ws set .has) part)
 
 abbrev pub onesNextBackRule : FixedBitSet → List ℕ → Part → Stepped
-onesNextBackRule set ws part = stepped (oneQuestions set ws part) part (back (read ws set .has) part)
+onesNextBackRule set ws part = stepped (partQuestions set ws part) part (back (read ws set .has) part)
 
 -- `zeroes`: non-members below L, rising, front steps only
 abbrev pub zeroesNextRule : FixedBitSet → List ℕ → Part → Stepped
-zeroesNextRule set ws part = stepped (oneQuestions set ws part) part (front (λ p. not (read ws set .has p)) part)
-
-abbrev pub twoQuestions : FixedBitSet → List ℕ → FixedBitSet → List ℕ → Part → ℕ
-twoQuestions a ws b vs part = first (bothQuestions a ws b vs) (partQuestion a part)
+zeroesNextRule set ws part = stepped (partQuestions set ws part) part (front (λ p. not (read ws set .has p)) part)
 
 -- `intersection`, `difference`: members of A that are, or are not, in B, rising
 abbrev pub intersectionNextRule : FixedBitSet → List ℕ → FixedBitSet → List ℕ → Part → Stepped
@@ -84,9 +72,6 @@ backPair f g one two = orElse (back g two .at)
 -- refused, none and both records as handed in
 abbrev pub steppedPair : ℕ → Part → Part → PairStep → SteppedPair
 steppedPair n one two s = given n (λ m. record { number = m; at = Nothing; one = one; two = two }) (record { number = 0; at = s .at; one = s .one; two = s .two })
-
-abbrev pub pairQuestions : FixedBitSet → List ℕ → FixedBitSet → List ℕ → Part → Part → ℕ
-pairQuestions a ws b vs one two = first (bothQuestions a ws b vs) (first (partQuestion a one) (partQuestion b two))
 
 -- the members of the first that are not in the second
 abbrev pub without : Members → Members → ℕ → Bool

@@ -1,5 +1,8 @@
-use parts::Part;
+use sets::FixedBitSet;
+use sets::Part;
 use sets::Position;
+ghost use mathlib.Core.Path.{_≡_};
+ghost use Rattle.walks.specs.Rules.{firstPart};
 
 pub struct Stepped {
     pub number: u64,
@@ -13,4 +16,14 @@ pub struct SteppedPair {
     pub at: Position,
     pub one: Part,
     pub two: Part,
+}
+
+// The record of a part over the set before its first step.
+pub fn first_part(set: FixedBitSet) -> Part
+    ensures { λ r. ⌜ r ≡ firstPart set ⌝ }
+{
+    Part {
+        low: 0,
+        high: set.length,
+    }
 }

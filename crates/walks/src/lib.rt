@@ -1,12 +1,12 @@
-// Steps of the walks, with the records by value, and question 8.
+// Steps of the walks, with the records by value.
 mod answers;
 mod one_set;
 mod pairs;
-mod questions;
 mod two_parts;
 
 pub use answers::Stepped;
 pub use answers::SteppedPair;
+pub use answers::first_part;
 pub use one_set::ones_next;
 pub use one_set::ones_next_back;
 pub use one_set::zeroes_next;
@@ -14,8 +14,6 @@ pub use pairs::difference_next;
 pub use pairs::difference_next_back;
 pub use pairs::intersection_next;
 pub use pairs::intersection_next_back;
-pub use questions::ask_part;
-pub use questions::first_part;
 pub use two_parts::symmetric_difference_next;
 pub use two_parts::symmetric_difference_next_back;
 pub use two_parts::union_next;

@@ -1,22 +1,23 @@
 use crate::answers::Stepped;
-use crate::questions::ask_one;
 use parts::End;
-use parts::Part;
 use parts::Selection;
 use parts::step_selected;
 use sets::FixedBitSet;
+use sets::Part;
 use sets::Position;
+use sets::check_part;
 ghost use mathlib.Core.Path.{_≡_};
 ghost use Prim.Native.Nat.{ℕ};
 ghost use Rattle.sets.specs.Members.{read};
 ghost use Rattle.parts.specs.Selections.{selected};
 ghost use Rattle.parts.specs.Steps.{step};
-ghost use Rattle.walks.specs.Rules.{stepped, oneQuestions, onesNextRule, onesNextBackRule, zeroesNextRule};
+ghost use Rattle.walks.specs.Rules.{stepped, onesNextRule, onesNextBackRule, zeroesNextRule};
+ghost use Rattle.sets.specs.Questions.{partQuestions};
 
 fn one_step(set: FixedBitSet, words: &[u64], part: Part, selection: Selection, end: End) -> Stepped
-    ensures { λ r. ⌜ r ≡ stepped (oneQuestions set (now (words .entry)) part) part (step end (λ (p : ℕ). selected selection (read (now (words .entry)) set .has p) (read (now (words .entry)) set .has p)) part) ⌝ }
+    ensures { λ r. ⌜ r ≡ stepped (partQuestions set (now (words .entry)) part) part (step end (λ (p : ℕ). selected selection (read (now (words .entry)) set .has p) (read (now (words .entry)) set .has p)) part) ⌝ }
 {
-    let number = ask_one(set, words, part);
+    let number = check_part(set, words, part);
     if number != 0 {
         return Stepped {
             number,

@@ -1,20 +1,21 @@
 use crate::answers::Stepped;
-use crate::questions::ask_part;
 use parts::End;
-use parts::Part;
 use parts::Selection;
 use parts::step_selected;
 use sets::FixedBitSet;
+use sets::Part;
 use sets::Position;
 use sets::as_slice;
-use two_sets::check_both;
+use sets::ask_part;
+use sets::check_both;
 ghost use mathlib.Core.Path.{_≡_};
 ghost use Prim.Native.Nat.{ℕ};
 ghost use Rattle.sets.specs.Members.{read};
 ghost use Rattle.parts.specs.Selections.{selected};
 ghost use Rattle.parts.specs.Steps.{step};
 ghost use Rattle.walks.specs.Rules.{stepped};
-ghost use Rattle.walks.specs.Rules.{twoQuestions, intersectionNextRule, intersectionNextBackRule, differenceNextRule, differenceNextBackRule};
+ghost use Rattle.walks.specs.Rules.{intersectionNextRule, intersectionNextBackRule, differenceNextRule, differenceNextBackRule};
+ghost use Rattle.sets.specs.Questions.{twoQuestions};
 
 fn ask_two(a: FixedBitSet, words: &[u64], b: FixedBitSet, other: &[u64], part: Part) -> u64
     ensures { λ r. ⌜ r ≡ twoQuestions a (now (words .entry)) b (now (other .entry)) part ⌝ }

@@ -1,18 +1,19 @@
 use crate::answers::SteppedPair;
-use crate::questions::ask_part;
 use parts::End;
-use parts::Part;
 use parts::Selection;
 use parts::step_selected;
 use sets::FixedBitSet;
+use sets::Part;
 use sets::Position;
 use sets::as_slice;
-use two_sets::check_both;
+use sets::ask_part;
+use sets::check_both;
 ghost use mathlib.Core.Path.{_≡_};
 ghost use Prim.Native.Nat.{ℕ};
 ghost use Rattle.sets.specs.Members.{read};
 ghost use Rattle.parts.specs.Selections.{selected};
-ghost use Rattle.walks.specs.Rules.{frontPair, backPair, steppedPair, pairQuestions, without, unionNextRule, unionNextBackRule, symmetricDifferenceNextRule, symmetricDifferenceNextBackRule};
+ghost use Rattle.walks.specs.Rules.{frontPair, backPair, steppedPair, without, unionNextRule, unionNextBackRule, symmetricDifferenceNextRule, symmetricDifferenceNextBackRule};
+ghost use Rattle.sets.specs.Questions.{pairQuestions};
 
 fn ask_parts(
     a: FixedBitSet,

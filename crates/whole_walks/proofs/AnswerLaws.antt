@@ -8,11 +8,11 @@ use lib.ListN.{length, getD, take, drop, set, length-set, take-append-drop}
 use lib.Seq.{take-suc-set, drop-set-lt, drop-cons, drop-length, append-snoc}
 use Rattle.sets.specs.Members.{read}
 use Rattle.sets.specs.declared.fixed_bit_set.FixedBitSet.{FixedBitSet}
-use Rattle.two_sets.specs.Rules.{bothQuestions}
+use Rattle.sets.specs.Questions.{bothQuestions, partQuestion}
+use Rattle.sets.proofs.RangeQuestionLaws.{part-yes}
 use Rattle.parts.specs.declared.records.End.{End}
-use Rattle.parts.specs.declared.records.Part.{Part}
-use Rattle.walks.specs.Rules.{firstPart, partQuestion}
-use Rattle.walks.proofs.WalkLaws.{part-yes}
+use Rattle.sets.specs.declared.answers.Part.{Part}
+use Rattle.walks.specs.Rules.{firstPart}
 use Rattle.walks.specs.Rules.{PairStep}
 use Rattle.walks.specs.declared.answers.SteppedPair.{SteppedPair}
 use Rattle.whole_walks.specs.Walks.{walkStep, answersFrom, answers}
@@ -73,18 +73,18 @@ module _ (walk : Walk) (a : FixedBitSet) (ws : List ℕ) (b : FixedBitSet) (vs s
 
   module _ {one two : Part} {k : ℕ} {out : List ℕ} (h : Answered one two k out) (ok : bothQuestions a ws b vs ≡ 0) where
     -- a step is not refused
-    pub number-zero : (end : End) {r : SteppedPair} → r ≡ walkStepRule walk end a ws b vs one two → r .number ≡ 0
+    pub number-zero : (end : End) {r : SteppedPair} → r ≡ walkStepRule a ws b vs walk end one two → r .number ≡ 0
     number-zero end e = ap (λ (s : SteppedPair). s .number) (e ∙ step-accepted a ws b vs ok one two (h .first) (h .second) walk end)
 
     -- and its answer is stored
-    pub answered-more : {end : End} {r : SteppedPair} {w : ℕ} → end ≡ endOf (getD steps k 0) → r ≡ walkStepRule walk end a ws b vs one two
+    pub answered-more : {end : End} {r : SteppedPair} {w : ℕ} → end ≡ endOf (getD steps k 0) → r ≡ walkStepRule a ws b vs walk end one two
         → w ≡ answerWord (r .at) → k < length steps → length steps ≤ length out₀ → Answered (r .one) (r .two) (k + 1) (set out k w)
     answered-more {r = r} f e v l room =
         let n = length steps in
         let s = stepAt k one two in
         let x = answerWord (s .at) in
         let rest = wordsFrom (suc k) (s .one) (s .two) in
-        let is : r ≡ accepted s = e ∙ ap (λ (t : End). walkStepRule walk t a ws b vs one two) f
+        let is : r ≡ accepted s = e ∙ ap (λ (t : End). walkStepRule a ws b vs walk t one two) f
         ∙ step-accepted a ws b vs ok one two (h .first) (h .second) walk (endOf (getD steps k 0)) in
         let kept = walk-kept walk (read ws a) (read vs b) (endOf (getD steps k 0)) a b one two (h .first) (h .second) in
         rw (v, is, add-one k) record {

@@ -7,7 +7,7 @@ use native.Mathlib.Nat.{zero-add, add-zero, add-suc, add-sub-of-le, sub-zero, le
 use native.Mathlib.Omega.{arith}
 use Rattle.sets.specs.Members.{Members, setOf}
 use Rattle.two_set_counts.specs.Lists.{positions}
-use Rattle.parts.specs.declared.records.Part.{Part}
+use Rattle.sets.specs.declared.answers.Part.{Part}
 use Rattle.walks.specs.Rules.{firstPart}
 
 -- ---- of the n positions from low up, those that f names, rising
@@ -40,8 +40,8 @@ module _ (f : ℕ → Bool) where
 
 -- ---- what is left of a part
 
-abbrev pub left : (ℕ → Bool) → Part → List ℕ
-left f part = between f (part .low) (part .high - part .low)
+abbrev pub partLeft : (ℕ → Bool) → Part → List ℕ
+partLeft f part = between f (part .low) (part .high - part .low)
 
 -- what a position cuts a part into
 abbrev pub under : Part → ℕ → Part
@@ -55,14 +55,14 @@ abbrev pub NoneIn : (ℕ → Bool) → Part → Type 0
 NoneIn f part = (p : ℕ) → part .low ≤ p → p < part .high → f p ≡ false
 
 -- at first, all of the set's
-pub left-first : (a : Members) (f : ℕ → Bool) → left f (firstPart (setOf a)) ≡ positions (a .len) f
+pub left-first : (a : Members) (f : ℕ → Bool) → partLeft f (firstPart (setOf a)) ≡ positions (a .len) f
 left-first a f = ap (between f 0) (sub-zero (a .len)) ∙ from-zero f (a .len)
 
 module _ (f : ℕ → Bool) (part : Part) where
-  pub left-none : NoneIn f part → left f part ≡ []
+  pub left-none : NoneIn f part → partLeft f part ≡ []
   left-none zs = between-none f (part .low) (part .high - part .low) (λ j l. zs (part .low + j) (omega arith) (omega arith))
 
-  pub left-cut : (p : ℕ) → part .low ≤ p → p < part .high → f p ≡ true → left f part ≡ left f (under part p) ++ (p ∷ left f (over part p))
+  pub left-cut : (p : ℕ) → part .low ≤ p → p < part .high → f p ≡ true → partLeft f part ≡ partLeft f (under part p) ++ (p ∷ partLeft f (over part p))
   left-cut p a b y =
       let m = p - part .low in
       let at : part .low + m ≡ p = add-sub-of-le a in

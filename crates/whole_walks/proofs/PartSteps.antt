@@ -1,4 +1,4 @@
--- What a step takes from what is left of its part. Assumes nothing.
+-- What a step takes from what is partLeft of its part. Assumes nothing.
 use mathlib.Core.Path.{_≡_, sym, ap, _∙_}
 use mathlib.Core.Bool.{Bool, true}
 use mathlib.Core.List.{List, [], _∷_, _++_}
@@ -8,15 +8,15 @@ use native.Mathlib.Nat.{add-sub-of-le}
 use native.Mathlib.Omega.{arith}
 use Rattle.word_bits.proofs.Ends.{below-no, below-yes, above-no, above-yes}
 use Rattle.word_bits.proofs.Order.{lt-or-le}
-use Rattle.sets.specs.declared.found.Position.{Position}
-use Rattle.sets.specs.declared.found.Position.the-variants.{At, Nothing}
+use Rattle.sets.specs.declared.answers.Position.{Position}
+use Rattle.sets.specs.declared.answers.Position.the-variants.{At, Nothing}
 use Rattle.parts.specs.Steps.{ahead, behind, front, back, step}
 use Rattle.parts.specs.declared.records.End.{End}
 use Rattle.parts.specs.declared.records.End.the-variants.{Front, Back}
-use Rattle.parts.specs.declared.records.Part.{Part}
+use Rattle.sets.specs.declared.answers.Part.{Part}
 use Rattle.parts.specs.declared.records.Step.{Step}
 use Rattle.parts.proofs.PartLaws.{front-none, front-at, back-none, back-at}
-use Rattle.whole_walks.proofs.PartLists.{left, under, over, NoneIn, left-none, left-cut}
+use Rattle.whole_walks.proofs.PartLists.{under, over, NoneIn, left-none, left-cut, partLeft}
 
 -- the part that a step passes over, and the part that it leaves
 abbrev pub passed : End → Part → ℕ → Part
@@ -81,10 +81,10 @@ Taken (At p) Back whole rest = whole ≡ rest ++ (p ∷ [])
 Taken Nothing end whole rest = (whole ≡ []) × (rest ≡ [])
 
 module _ (f : ℕ → Bool) (part : Part) where
-  outcome-taken : (end : End) {s : Step} → Outcome end f part s → Taken (s .at) end (left f part) (left f (s .part))
-  outcome-taken Front (gives p a b y zs) = left-cut f part p a b y ∙ ap (λ (xs : List ℕ). xs ++ (p ∷ left f (over part p))) (left-none f (under part p) zs)
-  outcome-taken Back (gives p a b y zs) = left-cut f part p a b y ∙ ap (λ (xs : List ℕ). left f (under part p) ++ (p ∷ xs)) (left-none f (over part p) zs)
+  outcome-taken : (end : End) {s : Step} → Outcome end f part s → Taken (s .at) end (partLeft f part) (partLeft f (s .part))
+  outcome-taken Front (gives p a b y zs) = left-cut f part p a b y ∙ ap (λ (xs : List ℕ). xs ++ (p ∷ partLeft f (over part p))) (left-none f (under part p) zs)
+  outcome-taken Back (gives p a b y zs) = left-cut f part p a b y ∙ ap (λ (xs : List ℕ). partLeft f (under part p) ++ (p ∷ xs)) (left-none f (over part p) zs)
   outcome-taken end (lacks zs) = (left-none f part zs, left-none f part zs)
 
-  pub step-taken : (end : End) → Taken (step end f part .at) end (left f part) (left f (step end f part .part))
+  pub step-taken : (end : End) → Taken (step end f part .at) end (partLeft f part) (partLeft f (step end f part .part))
   step-taken end = outcome-taken end (step-outcome f part end)

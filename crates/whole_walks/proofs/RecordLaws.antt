@@ -10,15 +10,15 @@ use lib.ListN.{getD}
 use Rattle.word_bits.proofs.Order.{lt-or-le}
 use Rattle.sets.specs.Members.{Members}
 use Rattle.sets.specs.declared.fixed_bit_set.FixedBitSet.{FixedBitSet}
-use Rattle.sets.specs.declared.found.Position.{Position}
-use Rattle.sets.specs.declared.found.Position.the-variants.{At, Nothing}
+use Rattle.sets.specs.declared.answers.Position.{Position}
+use Rattle.sets.specs.declared.answers.Position.the-variants.{At, Nothing}
 use Rattle.parts.specs.Steps.{front, back, step}
 use Rattle.parts.specs.declared.records.End.{End}
 use Rattle.parts.specs.declared.records.End.the-variants.{Front, Back}
-use Rattle.parts.specs.declared.records.Part.{Part}
+use Rattle.sets.specs.declared.answers.Part.{Part}
 use Rattle.parts.specs.declared.records.Step.{Step}
-use Rattle.walks.specs.Rules.{partQuestion}
-use Rattle.walks.proofs.WalkLaws.{part-yes, part-inverted, part-within}
+use Rattle.sets.specs.Questions.{partQuestion}
+use Rattle.sets.proofs.RangeQuestionLaws.{part-yes, part-inverted, part-within}
 use Rattle.walks.specs.Rules.{PairStep, orElse, without}
 use Rattle.whole_walks.specs.Walks.{onePart, walkStep, answersFrom}
 use Rattle.whole_walks.specs.declared.walk.Walk.{Walk}
@@ -51,16 +51,9 @@ module _ (f : ℕ → Bool) (part : Part) where
       go (gives q a b y zs) e = let same : q ≡ p = cc in omega arith
       go (lacks zs) e = absurd (let z : _≡_ {A = ℕ} 0 1 = cc in omega arith)
 
-pub part-ordered : (set : FixedBitSet) (part : Part) → partQuestion set part ≡ 0 → part .low ≤ part .high
-part-ordered set part e = go (lt-or-le (part .high) (part .low))
-  where
-    go : (part .high < part .low) ⊎ (part .low ≤ part .high) → part .low ≤ part .high
-    go (inl l) = absurd (omega (arith, part-inverted set part l))
-    go (inr g) = g
-
 pub step-kept : (set : FixedBitSet) (f : ℕ → Bool) (part : Part) (end : End) → partQuestion set part ≡ 0 → partQuestion set (step end f part .part) ≡ 0
 step-kept set f part end e =
-    part-yes set (step end f part .part) (step-ordered f part end (part-ordered set part e)) (le-trans (step-high f part end) (part-within set part e))
+    part-yes set (step end f part .part) (step-ordered f part end (part-within set part e .ordered)) (le-trans (step-high f part end) (part-within set part e .inside))
 
 -- ---- a step of a walk is a step of its first part or of its second
 

@@ -9,25 +9,21 @@ use borrow.Author.Tests.{le-leb, lt-leb}
 use lib.ListN.{length}
 use Rattle.word_bits.proofs.Ones.{count-ext}
 use Rattle.masks.specs.Ranges.{covers}
-use Rattle.masks.proofs.RangeLaws.{covers-yes, range-yes}
+use Rattle.masks.proofs.RangeLaws.{covers-yes}
+use Rattle.sets.proofs.RangeQuestionLaws.{range-yes}
 use Rattle.sets.specs.Members.{read}
 use Rattle.sets.specs.Outcomes.{given}
-use Rattle.sets.specs.Questions.{questions}
+use Rattle.sets.specs.Questions.{questions, rangeQuestions, bothQuestions, partQuestion, partQuestions, twoQuestions, pairQuestions}
 use Rattle.sets.specs.declared.fixed_bit_set.FixedBitSet.{FixedBitSet}
-use Rattle.sets.proofs.QuestionLaws.{first-yes, valid-yes}
+use Rattle.sets.proofs.QuestionLaws.{first-yes, valid-yes, both-valid}
 use Rattle.tests.specs.Tests.{onesIn}
-use Rattle.tests.specs.Rules.{rangeQuestions}
-use Rattle.two_sets.specs.Rules.{bothQuestions}
-use Rattle.two_sets.proofs.SetJoins.{both-valid}
 use Rattle.two_set_counts.specs.Lists.{onesList}
 use Rattle.two_set_counts.proofs.ListLaws.{length-positions}
 use Rattle.parts.specs.declared.records.End.{End}
 use Rattle.parts.specs.declared.records.End.the-variants.{Front, Back}
-use Rattle.parts.specs.declared.records.Part.{Part}
-use Rattle.walks.specs.Rules.{partQuestion, oneQuestions}
-use Rattle.walks.specs.Rules.{twoQuestions}
+use Rattle.sets.specs.declared.answers.Part.{Part}
 use Rattle.walks.specs.declared.answers.Stepped.{Stepped}
-use Rattle.walks.specs.Rules.{PairStep, pairQuestions}
+use Rattle.walks.specs.Rules.{PairStep}
 use Rattle.walks.specs.declared.answers.SteppedPair.{SteppedPair}
 use Rattle.whole_walks.specs.Walks.{walkList, walkStep}
 use Rattle.whole_walks.specs.Rules.{alone, walkStepRule, walkCountRule, answersQuestion}
@@ -46,7 +42,7 @@ module _ (a : FixedBitSet) (ws : List ℕ) (b : FixedBitSet) (vs : List ℕ) (ok
   own = valid-yes a ws (both-valid a ws b vs ok .one)
 
   module _ (one two : Part) (p : partQuestion a one ≡ 0) (q : partQuestion b two ≡ 0) where
-    one-asked : oneQuestions a ws one ≡ 0
+    one-asked : partQuestions a ws one ≡ 0
     one-asked = sym (first-yes own (sym p))
 
     two-asked : twoQuestions a ws b vs one ≡ 0
@@ -55,7 +51,7 @@ module _ (a : FixedBitSet) (ws : List ℕ) (b : FixedBitSet) (vs : List ℕ) (ok
     pair-asked : pairQuestions a ws b vs one two ≡ 0
     pair-asked = sym (first-yes ok (first-yes p (sym q)))
 
-    pub step-accepted : (walk : Walk) (end : End) → walkStepRule walk end a ws b vs one two ≡ accepted (walkStep walk end (read ws a) (read vs b) one two)
+    pub step-accepted : (walk : Walk) (end : End) → walkStepRule a ws b vs walk end one two ≡ accepted (walkStep walk end (read ws a) (read vs b) one two)
     unfolding given
     step-accepted Ones Front = rw one-asked
     step-accepted Ones Back = rw one-asked
@@ -69,7 +65,7 @@ module _ (a : FixedBitSet) (ws : List ℕ) (b : FixedBitSet) (vs : List ℕ) (ok
     step-accepted SymmetricDifference Back = rw pair-asked
 
   -- `count_ones` over all of A
-  all-asked : rangeQuestions a 0 (a .length) ws ≡ 0
+  all-asked : rangeQuestions a ws 0 (a .length) ≡ 0
   all-asked = sym (first-yes own (sym (range-yes 0 (a .length) (a .length) (omega arith) (le-refl (a .length)))))
 
   ones-size : onesIn 0 (a .length) (read ws a) ≡ length (onesList (read ws a))
@@ -79,7 +75,7 @@ module _ (a : FixedBitSet) (ws : List ℕ) (b : FixedBitSet) (vs : List ℕ) (ok
       (λ p l. ap (λ (t : Bool). t && read ws a .has p) (covers-yes 0 (a .length) p (omega arith) l))
       ∙ sym (length-positions (a .length) (read ws a .has))
 
-  pub count-accepted : (walk : Walk) → walkCountRule walk a ws b vs ≡ record { number = 0; count = length (walkList walk (read ws a) (read vs b)) }
+  pub count-accepted : (walk : Walk) → walkCountRule a ws b vs walk ≡ record { number = 0; count = length (walkList walk (read ws a) (read vs b)) }
   unfolding given
   count-accepted Ones = rw (all-asked, ones-size)
   count-accepted Intersection = rw ok

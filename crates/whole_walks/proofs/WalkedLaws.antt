@@ -10,16 +10,17 @@ use lib.Dec.{eqb, eqb·suc-suc}
 use lib.ListN.{length, getD, take, length-append}
 use Rattle.sets.specs.Members.{Members, setOf}
 use Rattle.sets.proofs.WriteLaws.{Clipped}
-use Rattle.sets.specs.declared.found.Position.{Position}
-use Rattle.sets.specs.declared.found.Position.the-variants.{At, Nothing}
+use Rattle.sets.specs.declared.answers.Position.{Position}
+use Rattle.sets.specs.declared.answers.Position.the-variants.{At, Nothing}
 use Rattle.two_set_counts.specs.Lists.{onesList, intersectionList, differenceList}
 use Rattle.parts.specs.declared.records.End.{End}
 use Rattle.parts.specs.declared.records.End.the-variants.{Front, Back}
-use Rattle.parts.specs.declared.records.Part.{Part}
+use Rattle.sets.specs.declared.answers.Part.{Part}
 use Rattle.walks.specs.Rules.{firstPart}
 use Rattle.walks.specs.Rules.{without}
 use Rattle.whole_walks.specs.Walks.{walkList, firstList, secondList, walkStep, answersFrom, answers}
-use Rattle.whole_walks.specs.Walked.{position, isNothing, fronts, backs, given, rising, Walked}
+use Rattle.whole_walks.specs.Walked.{isNothing, fronts, backs, rising, Walked, gave}
+use Rattle.sets.specs.Outcomes.{positionOf}
 use Rattle.whole_walks.specs.declared.walk.Walk.{Walk}
 use Rattle.whole_walks.specs.declared.walk.Walk.the-variants.{Ones, Intersection, Difference, Union, SymmetricDifference}
 use Rattle.whole_walks.proofs.PartSteps.{Taken}
@@ -34,13 +35,13 @@ eqb-add (suc c) m n = ap₂ eqb (suc-add c m) (suc-add c n) ∙ eqb·suc-suc (c 
 
 record Run (ends : List End) (xs : List Position) (whole : List ℕ) : Type 0 where
   answered : length xs ≡ length ends
-  left : List ℕ
-  in-order : fronts ends xs ++ left ++ reverse (backs ends xs) ≡ whole
-  none : (k : ℕ) → k < length ends → isNothing (getD xs k Nothing) ≡ eqb (given (take k xs)) (length whole)
+  middle : List ℕ
+  in-order : fronts ends xs ++ middle ++ reverse (backs ends xs) ≡ whole
+  none : (k : ℕ) → k < length ends → isNothing (getD xs k Nothing) ≡ eqb (gave (take k xs)) (length whole)
 
 -- one step, and those after it
 module _ (whole rest : List ℕ) where
-  taken-length : (x : Position) (end : End) → Taken x end whole rest → length whole ≡ length (position x) + length rest
+  taken-length : (x : Position) (end : End) → Taken x end whole rest → length whole ≡ length (positionOf x) + length rest
   taken-length (At p) Front t = ap length t ∙ omega arith
   taken-length (At p) Back t = ap length t ∙ length-append rest (p ∷ []) ∙ omega arith
   taken-length Nothing end t = omega (arith, ap length (t .0), ap length (t .1))
@@ -50,28 +51,28 @@ module _ (whole rest : List ℕ) where
   taken-none Nothing end t = sym (ap (λ (ys : List ℕ). eqb 0 (length ys)) (t .0))
 
   module _ (ends : List End) (xs : List Position) where
-    ordered : (x : Position) (end : End) → Taken x end whole rest → (left : List ℕ) → fronts ends xs ++ left ++ reverse (backs ends xs) ≡ rest
-        → fronts (end ∷ ends) (x ∷ xs) ++ left ++ reverse (backs (end ∷ ends) (x ∷ xs)) ≡ whole
-    ordered (At p) Front t left e = ap (λ (ys : List ℕ). p ∷ ys) e ∙ sym t
-    ordered (At p) Back t left e =
-        ap (λ (ys : List ℕ). fronts ends xs ++ left ++ ys) (reverse-cons p (backs ends xs))
-        ∙ sym (append-assoc (fronts ends xs ++ left) (reverse (backs ends xs)) (p ∷ [])) ∙ ap (λ (ys : List ℕ). ys ++ (p ∷ [])) e ∙ sym t
-    ordered Nothing Front t left e = e ∙ t .1 ∙ sym (t .0)
+    ordered : (x : Position) (end : End) → Taken x end whole rest → (middle : List ℕ) → fronts ends xs ++ middle ++ reverse (backs ends xs) ≡ rest
+        → fronts (end ∷ ends) (x ∷ xs) ++ middle ++ reverse (backs (end ∷ ends) (x ∷ xs)) ≡ whole
+    ordered (At p) Front t middle e = ap (λ (ys : List ℕ). p ∷ ys) e ∙ sym t
+    ordered (At p) Back t middle e =
+        ap (λ (ys : List ℕ). fronts ends xs ++ middle ++ ys) (reverse-cons p (backs ends xs))
+        ∙ sym (append-assoc (fronts ends xs ++ middle) (reverse (backs ends xs)) (p ∷ [])) ∙ ap (λ (ys : List ℕ). ys ++ (p ∷ [])) e ∙ sym t
+    ordered Nothing Front t middle e = e ∙ t .1 ∙ sym (t .0)
     ordered Nothing Back t left e = e ∙ t .1 ∙ sym (t .0)
 
     one-more : (x : Position) (end : End) → Taken x end whole rest → Run ends xs rest → Run (end ∷ ends) (x ∷ xs) whole
-    one-more x end t r = record { answered = ap suc (r .answered); left = r .left; in-order = ordered x end t (r .left) (r .in-order); none = go }
+    one-more x end t r = record { answered = ap suc (r .answered); middle = r .middle; in-order = ordered x end t (r .middle) (r .in-order); none = go }
       where
-        go : (k : ℕ) → k < suc (length ends) → isNothing (getD (x ∷ xs) k Nothing) ≡ eqb (given (take k (x ∷ xs))) (length whole)
+        go : (k : ℕ) → k < suc (length ends) → isNothing (getD (x ∷ xs) k Nothing) ≡ eqb (gave (take k (x ∷ xs))) (length whole)
         go zero l = taken-none x end t
         go (suc k) l =
             r .none k (le-of-suc-le-suc l)
-            ∙ sym (ap (eqb (length (position x) + given (take k xs))) (taken-length x end t) ∙ eqb-add (length (position x)) (given (take k xs)) (length rest))
+            ∙ sym (ap (eqb (length (positionOf x) + gave (take k xs))) (taken-length x end t) ∙ eqb-add (length (positionOf x)) (gave (take k xs)) (length rest))
 
 module _ (walk : Walk) (a b : Members) where
   run : (ends : List End) (one two : Part) → Run ends (answersFrom walk a b ends one two) (remaining walk a b one two)
   unfolding answersFrom
-  run [] one two = record { answered = refl; left = remaining walk a b one two; in-order = append-nil (remaining walk a b one two); none = λ k l. absurd (not-suc-le-zero l) }
+  run [] one two = record { answered = refl; middle = remaining walk a b one two; in-order = append-nil (remaining walk a b one two); none = λ k l. absurd (not-suc-le-zero l) }
   run (end ∷ ends) one two =
       let s = walkStep walk end a b one two in
       one-more (remaining walk a b one two) (remaining walk a b (s .one) (s .two)) ends (answersFrom walk a b ends (s .one) (s .two))
@@ -99,11 +100,11 @@ walked walk a b ca cb ends =
     let r : Run ends (answers walk a b ends) (walkList walk a b) = rw (remaining-first a b walk) at (run walk a b ends (firstPart (setOf a)) (firstPart (setOf b))) in
     record {
       answered = r .answered;
-      left = r .left;
+      middle = r .middle;
       in-order = r .in-order;
       exactly = λ p. exact a b ca cb p walk;
       parts = in-parts a b walk;
       rises = parts-rise a b walk;
       none = r .none;
-      counted = refl;
+      count-right = refl;
     }

@@ -6,17 +6,16 @@ use lib.Dec.{eqb, leb}
 use lib.ListN.{length, drop}
 use Rattle.sets.specs.Members.{read}
 use Rattle.sets.specs.Outcomes.{given}
-use Rattle.sets.specs.Questions.{first}
+use Rattle.sets.specs.Questions.{first, bothQuestions}
 use Rattle.sets.specs.declared.fixed_bit_set.FixedBitSet.{FixedBitSet}
 use Rattle.sets.specs.declared.answers.Counted.{Counted}
 use Rattle.tests.specs.Rules.{countOnesRule}
-use Rattle.sets.specs.declared.found.Position.{Position}
-use Rattle.sets.specs.declared.found.Position.the-variants.{At, Nothing}
-use Rattle.two_sets.specs.Rules.{bothQuestions}
+use Rattle.sets.specs.declared.answers.Position.{Position}
+use Rattle.sets.specs.declared.answers.Position.the-variants.{At, Nothing}
 use Rattle.two_set_counts.specs.Rules.{unionCountRule, intersectionCountRule, differenceCountRule, symmetricDifferenceCountRule}
 use Rattle.parts.specs.declared.records.End.{End}
 use Rattle.parts.specs.declared.records.End.the-variants.{Front, Back}
-use Rattle.parts.specs.declared.records.Part.{Part}
+use Rattle.sets.specs.declared.answers.Part.{Part}
 use Rattle.walks.specs.Rules.{onesNextRule, onesNextBackRule}
 use Rattle.walks.specs.Rules.{intersectionNextRule, intersectionNextBackRule, differenceNextRule, differenceNextBackRule}
 use Rattle.walks.specs.declared.answers.Stepped.{Stepped}
@@ -30,25 +29,25 @@ use Rattle.whole_walks.specs.declared.walk.Walk.the-variants.{Ones, Inte
 abbrev pub alone : Stepped → Part → SteppedPair
 alone s two = record { number = s .number; at = s .at; one = s .part; two = two }
 
-abbrev pub walkStepRule : Walk → End → FixedBitSet → List ℕ → FixedBitSet → List ℕ → Part → Part → SteppedPair
-walkStepRule Ones Front a ws b vs one two = alone (onesNextRule a ws one) two
-walkStepRule Ones Back a ws b vs one two = alone (onesNextBackRule a ws one) two
-walkStepRule Intersection Front a ws b vs one two = alone (intersectionNextRule a ws b vs one) two
-walkStepRule Intersection Back a ws b vs one two = alone (intersectionNextBackRule a ws b vs one) two
-walkStepRule Difference Front a ws b vs one two = alone (differenceNextRule a ws b vs one) two
-walkStepRule Difference Back a ws b vs one two = alone (differenceNextBackRule a ws b vs one) two
-walkStepRule Union Front a ws b vs one two = unionNextRule a ws b vs one two
-walkStepRule Union Back a ws b vs one two = unionNextBackRule a ws b vs one two
-walkStepRule SymmetricDifference Front a ws b vs one two = symmetricDifferenceNextRule a ws b vs one two
-walkStepRule SymmetricDifference Back a ws b vs one two = symmetricDifferenceNextBackRule a ws b vs one two
+abbrev pub walkStepRule : FixedBitSet → List ℕ → FixedBitSet → List ℕ → Walk → End → Part → Part → SteppedPair
+walkStepRule a ws b vs Ones Front one two = alone (onesNextRule a ws one) two
+walkStepRule a ws b vs Ones Back one two = alone (onesNextBackRule a ws one) two
+walkStepRule a ws b vs Intersection Front one two = alone (intersectionNextRule a ws b vs one) two
+walkStepRule a ws b vs Intersection Back one two = alone (intersectionNextBackRule a ws b vs one) two
+walkStepRule a ws b vs Difference Front one two = alone (differenceNextRule a ws b vs one) two
+walkStepRule a ws b vs Difference Back one two = alone (differenceNextBackRule a ws b vs one) two
+walkStepRule a ws b vs Union Front one two = unionNextRule a ws b vs one two
+walkStepRule a ws b vs Union Back one two = unionNextBackRule a ws b vs one two
+walkStepRule a ws b vs SymmetricDifference Front one two = symmetricDifferenceNextRule a ws b vs one two
+walkStepRule a ws b vs SymmetricDifference Back one two = symmetricDifferenceNextBackRule a ws b vs one two
 
 -- `ones` is counted by `count_ones` over all of A, the others by the count of their name
-abbrev pub walkCountRule : Walk → FixedBitSet → List ℕ → FixedBitSet → List ℕ → Counted
-walkCountRule Ones a ws b vs = countOnesRule a 0 (a .length) ws
-walkCountRule Intersection a ws b vs = intersectionCountRule a ws b vs
-walkCountRule Difference a ws b vs = differenceCountRule a ws b vs
-walkCountRule Union a ws b vs = unionCountRule a ws b vs
-walkCountRule SymmetricDifference a ws b vs = symmetricDifferenceCountRule a ws b vs
+abbrev pub walkCountRule : FixedBitSet → List ℕ → FixedBitSet → List ℕ → Walk → Counted
+walkCountRule a ws b vs Ones = countOnesRule a ws 0 (a .length)
+walkCountRule a ws b vs Intersection = intersectionCountRule a ws b vs
+walkCountRule a ws b vs Difference = differenceCountRule a ws b vs
+walkCountRule a ws b vs Union = unionCountRule a ws b vs
+walkCountRule a ws b vs SymmetricDifference = symmetricDifferenceCountRule a ws b vs
 
 -- a step is one at the front for 0, and one at the back for any other number
 abbrev pub endOf : ℕ → End
@@ -76,8 +75,8 @@ abbrev pub walkOutcome : Counted → List ℕ → WalkOutcome
 walkOutcome r out = record { number = r .number; count = r .count; out = out }
 
 -- questions 1 to 3 of A, then of B, then 7; refused, no word is written
-abbrev pub walkRule : Walk → FixedBitSet → List ℕ → FixedBitSet → List ℕ → List ℕ → List ℕ → WalkOutcome
-walkRule walk a ws b vs steps out =
+abbrev pub walkRule : FixedBitSet → List ℕ → FixedBitSet → List ℕ → Walk → List ℕ → List ℕ → WalkOutcome
+walkRule a ws b vs walk steps out =
     given (first (bothQuestions a ws b vs) (answersQuestion (length steps) (length out))) (λ m. record { number = m; count = 0; out = out })
     (record {
       number = 0;

@@ -7,17 +7,13 @@ use lib.Dec.{eqb, ltb}
 use lib.ListN.{length, getD, take}
 use Rattle.word_bits.specs.Digits.{one}
 use Rattle.sets.specs.Members.{Members}
-use Rattle.sets.specs.declared.found.Position.{Position}
-use Rattle.sets.specs.declared.found.Position.the-variants.{At, Nothing}
+use Rattle.sets.specs.Outcomes.{positionOf}
+use Rattle.sets.specs.declared.answers.Position.{Position}
+use Rattle.sets.specs.declared.answers.Position.the-variants.{At, Nothing}
 use Rattle.parts.specs.declared.records.End.{End}
 use Rattle.parts.specs.declared.records.End.the-variants.{Front, Back}
 use Rattle.whole_walks.specs.Walks.{walkList, firstList, secondList, wanted}
 use Rattle.whole_walks.specs.declared.walk.Walk.{Walk}
-
--- the position of an answer, where it has one
-abbrev pub position : Position → List ℕ
-position (At p) = p ∷ []
-position Nothing = []
 
 abbrev pub isNothing : Position → Bool
 isNothing (At p) = false
@@ -25,7 +21,7 @@ isNothing Nothing = true
 
 -- the positions given at the front, and at the back, in the order given
 abbrev pub fronts : List End → List Position → List ℕ
-fronts (Front ∷ ends) (x ∷ xs) = position x ++ fronts ends xs
+fronts (Front ∷ ends) (x ∷ xs) = positionOf x ++ fronts ends xs
 fronts (Back ∷ ends) (x ∷ xs) = fronts ends xs
 fronts [] xs = []
 fronts (Front ∷ ends) [] = []
@@ -33,15 +29,15 @@ fronts (Back ∷ ends) [] = []
 
 abbrev pub backs : List End → List Position → List ℕ
 backs (Front ∷ ends) (x ∷ xs) = backs ends xs
-backs (Back ∷ ends) (x ∷ xs) = position x ++ backs ends xs
+backs (Back ∷ ends) (x ∷ xs) = positionOf x ++ backs ends xs
 backs [] xs = []
 backs (Front ∷ ends) [] = []
 backs (Back ∷ ends) [] = []
 
 -- how many positions the answers gave, at both ends together
-abbrev pub given : List Position → ℕ
-given [] = 0
-given (x ∷ xs) = length (position x) + given xs
+abbrev pub gave : List Position → ℕ
+gave [] = 0
+gave (x ∷ xs) = length (positionOf x) + gave xs
 
 -- how often p stands in a list
 abbrev pub occurrences : ℕ → List ℕ → ℕ
@@ -57,15 +53,15 @@ rising (p ∷ q ∷ qs) = ltb p q && rising (q ∷ qs)
 pub record Walked (walk : Walk) (a b : Members) (ends : List End) (xs : List Position) (count : ℕ) : Type 0 where
   -- every step has an answer
   pub answered : length xs ≡ length ends
-  -- the positions given at the front are, in order, the start of the walk's list; those given at the back are its end, last one first; `left` is what no step gave
-  pub left : List ℕ
-  pub in-order : fronts ends xs ++ left ++ reverse (backs ends xs) ≡ walkList walk a b
+  -- the positions given at the front are, in order, the start of the walk's list; those given at the back are its end, last one first; `middle` is what no step gave
+  pub middle : List ℕ
+  pub in-order : fronts ends xs ++ middle ++ reverse (backs ends xs) ≡ walkList walk a b
   -- the list has exactly the positions that belong in it, each once
   pub exactly : (p : ℕ) → occurrences p (walkList walk a b) ≡ one (wanted walk a b p)
   -- and each part rises
   pub parts : firstList walk a b ++ secondList walk a b ≡ walkList walk a b
   pub rises : (rising (firstList walk a b) ≡ true) × (rising (secondList walk a b) ≡ true)
   -- a step answers none exactly when the steps before it, at both ends together, gave as many positions as the count reports
-  pub none : (k : ℕ) → k < length ends → isNothing (getD xs k Nothing) ≡ eqb (given (take k xs)) count
+  pub none : (k : ℕ) → k < length ends → isNothing (getD xs k Nothing) ≡ eqb (gave (take k xs)) count
   -- the count is the list's length
-  pub counted : count ≡ length (walkList walk a b)
+  pub count-right : count ≡ length (walkList walk a b)

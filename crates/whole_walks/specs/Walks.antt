@@ -3,12 +3,12 @@ use mathlib.Core.Bool.{Bool, not, xor, _&&_, _||_}
 use mathlib.Core.List.{List, [], _∷_}
 use Prim.Native.Nat.{ℕ}
 use Rattle.sets.specs.Members.{Members, setOf}
-use Rattle.sets.specs.declared.found.Position.{Position}
+use Rattle.sets.specs.declared.answers.Position.{Position}
 use Rattle.two_set_counts.specs.Lists.{onesList, intersectionList, differenceList, unionList, symmetricDifferenceList}
 use Rattle.parts.specs.Steps.{step}
 use Rattle.parts.specs.declared.records.End.{End}
 use Rattle.parts.specs.declared.records.End.the-variants.{Front, Back}
-use Rattle.parts.specs.declared.records.Part.{Part}
+use Rattle.sets.specs.declared.answers.Part.{Part}
 use Rattle.parts.specs.declared.records.Step.{Step}
 use Rattle.walks.specs.Rules.{firstPart}
 use Rattle.walks.specs.Rules.{PairStep, frontPair, backPair, without}

@@ -1,7 +1,7 @@
 use crate::walk::Walk;
 use parts::End;
-use parts::Part;
 use sets::FixedBitSet;
+use sets::Part;
 use walks::Stepped;
 use walks::SteppedPair;
 use walks::difference_next;
@@ -41,7 +41,7 @@ pub fn walk_step(
     one: Part,
     two: Part,
 ) -> SteppedPair
-    ensures { λ r. ⌜ r ≡ walkStepRule walk end a (now (words .entry)) b (now (other .entry)) one two ⌝ }
+    ensures { λ r. ⌜ r ≡ walkStepRule a (now (words .entry)) b (now (other .entry)) walk end one two ⌝ }
 {
     match walk {
         Walk::Ones => match end {

@@ -17,7 +17,7 @@ pub fn walk_count(
     other: &[u64],
     walk: Walk,
 ) -> Counted
-    ensures { λ r. ⌜ r ≡ walkCountRule walk a (now (words .entry)) b (now (other .entry)) ⌝ }
+    ensures { λ r. ⌜ r ≡ walkCountRule a (now (words .entry)) b (now (other .entry)) walk ⌝ }
 {
     match walk {
         Walk::Ones => count_ones(a, words, 0, a.length),

@@ -5,14 +5,14 @@ use parts::End;
 use sets::Counted;
 use sets::FixedBitSet;
 use sets::Position;
-use two_sets::check_both;
+use sets::check_both;
 use walks::first_part;
 ghost use mathlib.Core.Path.{_≡_};
 ghost use mathlib.Core.List.{_++_, map};
 ghost use Prim.Native.Nat.{_≤_};
 ghost use lib.ListN.{length, drop};
 ghost use Rattle.sets.specs.Members.{read};
-ghost use Rattle.two_sets.specs.Rules.{bothQuestions};
+ghost use Rattle.sets.specs.Questions.{bothQuestions};
 ghost use Rattle.whole_walks.specs.Walks.{answers};
 ghost use Rattle.whole_walks.specs.Rules.{endOf, answerWord, walkOutcome, walkRule};
 
@@ -73,7 +73,7 @@ pub fn walk_whole(
     steps: &[u64],
     out: &mut [u64],
 ) -> Counted
-    ensures { λ r. ⌜ walkOutcome r (now (out .exit)) ≡ walkRule walk a (now (words .entry)) b (now (other .entry)) (now (steps .entry)) (now (out .entry)) ⌝ }
+    ensures { λ r. ⌜ walkOutcome r (now (out .exit)) ≡ walkRule a (now (words .entry)) b (now (other .entry)) walk (now (steps .entry)) (now (out .entry)) ⌝ }
 {
     let number = check_both(a, words, b, other);
     if number != 0 {

@@ -7,7 +7,7 @@ use borrow.Author.Tests.{ne-eqb}
 use denote.Ref.{now}
 use lib.Dec.{eqb}
 use Rattle.calls.specs.Encoding.{decode}
-use Rattle.two_sets.proofs.SetJoins.{both-valid}
+use Rattle.sets.proofs.QuestionLaws.{both-valid}
 use Rattle.calls.proofs.HistoryLaws.{no-call, on-a, on-b}
 use Rattle.calls.proofs.replays.replay_one.Statement.{statement}
 use Rattle.calls.proofs.replays.replay_one.Tie as tie

@@ -27,8 +27,8 @@ returns c =
     let a = c .before .before .before .before .before .before .before .before .args in
     let ws = now (a .words) in
     c .before .before .change-position .ensures
-    ∙ ap (λ (f : Bool → Bool). atPosition (a .set) (a .to) ws (changed (eqb (a .to)) f (read ws (a .set)))) (c .before .before .before .assigning .ensures)
-    ∙ ap (λ (b : Bool). atPosition (a .set) (a .to) ws (assigned (a .to) b (read ws (a .set)))) (c .before .before .before .before .before .member .ensures)
+    ∙ ap (λ (f : Bool → Bool). atPosition (a .set) ws (a .to) (changed (eqb (a .to)) f (read ws (a .set)))) (c .before .before .before .assigning .ensures)
+    ∙ ap (λ (b : Bool). atPosition (a .set) ws (a .to) (assigned (a .to) b (read ws (a .set)))) (c .before .before .before .before .before .member .ensures)
 
 pub copy-bit-spec : {M : Type 1} → statement M
 copy-bit-spec =

@@ -23,7 +23,7 @@ returns c =
     let a = c .before .before .before .before .before .before .args in
     let ws = now (a .words) in
     c .before .before .change-position .ensures
-    ∙ ap (λ (f : Bool → Bool). atPosition (a .set) (a .bit) ws (changed (eqb (a .bit)) f (read ws (a .set)))) (c .before .before .before .assigning .ensures)
+    ∙ ap (λ (f : Bool → Bool). atPosition (a .set) ws (a .bit) (changed (eqb (a .bit)) f (read ws (a .set)))) (c .before .before .before .assigning .ensures)
 
 pub set-spec : {M : Type 1} → statement M
 set-spec = tie.close (tie.spec assigning-requires change-position-requires same-length returns)

@@ -23,7 +23,7 @@ returns c =
     let a = c .before .before .before .before .before .before .args in
     let ws = now (a .words) in
     c .before .before .change-range .ensures
-    ∙ ap (λ (f : Bool → Bool). overRange (a .set) (a .start) (a .end) ws (changed (covers (a .start) (a .end)) f (read ws (a .set)))) (c .before .before .before .assigning .ensures)
+    ∙ ap (λ (f : Bool → Bool). overRange (a .set) ws (a .start) (a .end) (changed (covers (a .start) (a .end)) f (read ws (a .set)))) (c .before .before .before .assigning .ensures)
 
 pub set-range-spec : {M : Type 1} → statement M
 set-range-spec = tie.close (tie.spec assigning-requires change-range-requires same-length returns)

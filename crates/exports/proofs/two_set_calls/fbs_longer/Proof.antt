@@ -1,22 +1,30 @@
--- `exports::two_set_calls::fbs_longer` meets its contract. Assumes nothing.
-use mathlib.Core.Path.{refl}
-use denote.Ref.{now}
-use Rattle.sets.specs.Members.{wordsOf}
-use Rattle.two_sets.specs.Rules.{bothQuestions}
-use Rattle.exports.proofs.SliceLaws.{longer-words}
+-- `exports::fbs_longer` meets its contract. Assumes nothing.
+use mathlib.Core.Path.{_≡_, sym, ap, _∙_}
+use mathlib.Core.Bool.{false}
+use Prim.Native.Nat.{ℕ}
+use lib.Dec.{leb}
 use borrow.Author.Needs.{needs}
+use Rattle.sets.proofs.OutcomeLaws.{given-no, given-yes}
+use Rattle.exports.specs.declared.answers.FbsLonger.{FbsLonger}
+use Rattle.exports.proofs.SliceLaws.{longer-none, longer-count}
 use Rattle.exports.proofs.two_set_calls.fbs_longer.Statement.{statement}
 use Rattle.exports.proofs.two_set_calls.fbs_longer.Tie as tie
-
-longer-requires : tie.Need-longer-requires
-longer-requires c κs = search needs
 
 returns : tie.Need-returns
 returns c =
     let a = c .before .before .before .before .before .args in
-    let ws = now (a .words) in
-    let vs = now (a .other) in
-    (refl, rw (c .longer .ensures) (longer-words (bothQuestions (a .a) ws (a .b) vs) (a .a .length) (a .b .length) (wordsOf (a .a .length)) (wordsOf (a .b .length)) ws vs))
+    let number = c .before .longer-number .ensures in
+    ap (λ (n : ℕ). record { second = false; offset = 0; count = n })
+    (longer-none (a .a) (a .words) (a .b) (a .other) (c .before .before .longer .ensures) (λ z. c .if1 .taken (number ∙ z)))
+    ∙ given-no (λ m. record { second = false; offset = 0; count = 0 }) _ number (c .if1 .taken)
+
+returns-2 : tie.Need-returns-2
+returns-2 c =
+    let a = c .before .before .before .before .before .before .before .args in
+    let accepted = sym (c .before .before .if1 .left) ∙ c .before .before .before .longer-number .ensures in
+    given-yes _ accepted
+    (ap (λ (n : ℕ). record { second = leb (a .a .length) (a .b .length); offset = 0; count = n })
+    (longer-count (a .a) (a .words) (a .b) (a .other) (c .before .before .before .before .longer .ensures) (sym accepted)))
 
 pub fbs-longer-spec : {M : Type 1} → statement M
-fbs-longer-spec = tie.close (tie.spec longer-requires returns)
+fbs-longer-spec = tie.close (tie.spec (λ c κs. search needs) (λ c κs. search needs) returns returns-2)

@@ -1,19 +1,22 @@
--- `exports::view_calls::fbs_as_slice` meets its contract. Assumes nothing.
+-- `exports::fbs_as_slice` meets its contract. Assumes nothing.
+use mathlib.Core.Path.{_≡_, ap, _∙_}
 use denote.Ref.{now}
+use lib.ListN.{length}
+use borrow.Author.Needs.{needs}
 use Rattle.sets.specs.Members.{wordsOf}
 use Rattle.sets.specs.Questions.{questions}
-use Rattle.exports.proofs.SliceLaws.{first-words}
-use borrow.Author.Needs.{needs}
+use Rattle.sets.specs.Rules.{SlicePart}
+use Rattle.sets.proofs.QuestionLaws.{valid}
+use Rattle.exports.specs.declared.answers.FbsSlice.{FbsSlice}
+use Rattle.exports.proofs.SliceLaws.{slice-counts}
 use Rattle.exports.proofs.view_calls.fbs_as_slice.Statement.{statement}
 use Rattle.exports.proofs.view_calls.fbs_as_slice.Tie as tie
-
-as-slice-requires : tie.Need-as-slice-requires
-as-slice-requires c κs = search needs
 
 returns : tie.Need-returns
 returns c =
     let a = c .before .before .args in
-    rw (c .as-slice .ensures) (first-words (questions (a .set) (now (a .words))) (wordsOf (a .set .length)) (now (a .words)))
+    ap (λ (s : SlicePart). record { offset = 0; count = length (s .words) }) (c .as-slice .ensures)
+    ∙ slice-counts (questions (a .set) (now (a .words))) (wordsOf (a .set .length)) (a .words) (λ z. valid (a .set) (now (a .words)) z .enough)
 
 pub fbs-as-slice-spec : {M : Type 1} → statement M
-fbs-as-slice-spec = tie.close (tie.spec as-slice-requires returns)
+fbs-as-slice-spec = tie.close (tie.spec (λ c κs. search needs) returns)

@@ -21,7 +21,7 @@ returns : tie.Need-returns
 returns c =
     let a = c .before .before .before .before .args in
     c .stepped .ensures
-    ∙ ap exportStepped (c .before .walker-step .ensures ∙ ap (λ (e : End). walkerRule e (a .set) (now (a .words)) (a .part)) (c .before .before .end-at .ensures))
+    ∙ ap exportStepped (c .before .walker-step .ensures ∙ ap (λ (e : End). walkerRule (a .set) (now (a .words)) (a .part) e) (c .before .before .end-at .ensures))
 
 pub fbs-walker-step-spec : {M : Type 1} → statement M
 fbs-walker-step-spec =

@@ -3,31 +3,31 @@ use mathlib.Core.Path.{sym, ap, _∙_}
 use Rattle.sets.proofs.OutcomeLaws.{given-no, given-yes}
 use Prim.Native.Nat.{ℕ}
 use denote.Ref.{now}
-use Rattle.tests.proofs.AskLaws.{asked}
+use Rattle.sets.proofs.RangeQuestionLaws.{held-range}
 use Rattle.tests.proofs.CountLaws.{ones-is}
 use borrow.Author.Needs.{needs}
 use Rattle.tests.proofs.counts.count_ones.Statement.{statement}
 use Rattle.tests.proofs.counts.count_ones.Tie as tie
 
-ask-requires : tie.Need-ask-requires
-ask-requires c κs = search needs
+check-range-requires : tie.Need-check-range-requires
+check-range-requires c κs = search needs
 
 returns : tie.Need-returns
-returns c = given-no _ _ (c .before .ask .ensures) (c .if1 .taken)
+returns c = given-no _ _ (c .before .check-range .ensures) (c .if1 .taken)
 
 ones-of-requires : tie.Need-ones-of-requires
 ones-of-requires c κs =
-    let q = asked _ _ _ _ (sym (c .before .ask .ensures) ∙ c .if1 .left) in
+    let q = held-range _ _ _ _ (sym (c .before .check-range .ensures) ∙ c .if1 .left) in
     (q .held, q .small)
 
 returns-2 : tie.Need-returns-2
 returns-2 c =
     let a = c .before .before .before .before .args in
-    let accepted = sym (c .before .if1 .left) ∙ c .before .before .ask .ensures in
-    let q = asked (a .set) (a .start) (a .end) (now (a .words)) (sym accepted) in
+    let accepted = sym (c .before .if1 .left) ∙ c .before .before .check-range .ensures in
+    let q = held-range (a .set) (now (a .words)) (a .start) (a .end) (sym accepted) in
     given-yes _ accepted
     (ap (λ (n : ℕ). record { number = 0; count = n })
     (c .ones-of .ensures ∙ ones-is (a .set) (now (a .words)) (a .start) (a .end) (q .range)))
 
 pub count-ones-spec : {M : Type 1} → statement M
-count-ones-spec = tie.close (tie.spec ask-requires returns ones-of-requires returns-2)
+count-ones-spec = tie.close (tie.spec check-range-requires returns ones-of-requires returns-2)

@@ -8,7 +8,7 @@ use Rattle.word_bits.proofs.Ones.{count-le}
 use Rattle.masks.specs.Ranges.{endBlock}
 use Rattle.sets.specs.Members.{bitOf}
 use Rattle.tests.proofs.CountLaws.{onesAt, ones-empty, ones-one, ones-three}
-use Rattle.tests.proofs.PartLaws.{part, meets}
+use Rattle.tests.proofs.PartLaws.{meets, inRange}
 use borrow.Author.Needs.{needs}
 use native.Mathlib.Omega.{arith}
 use Rattle.tests.proofs.counts.ones_of.Statement.{statement}
@@ -51,7 +51,7 @@ ones-between-requires c κs =
 
 -- the bits of the range
 abbrev counted : tie.After-ones-between → ℕ → Bool
-counted c = part (c .before .before .before .before .before .before .before .before .before .before .args .start) (c .before .before .before .before .before .before .before .before .before .before .args .end) (bitOf (now (c .before .before .before .before .before .before .before .before .before .before .args .words)))
+counted c = inRange (c .before .before .before .before .before .before .before .before .before .before .args .start) (c .before .before .before .before .before .before .before .before .before .before .args .end) (bitOf (now (c .before .before .before .before .before .before .before .before .before .before .args .words)))
 
 -- with the last word they are all counted
 known : (c : tie.After-ones-between)

@@ -8,8 +8,8 @@ use Rattle.sets.specs.Members.{wordsOf}
 use Rattle.sets.proofs.OutcomeLaws.{given-no, given-yes}
 use Rattle.sets.proofs.QuestionLaws.{Valid, valid}
 use Rattle.sets.proofs.WordLaws.{words-hold}
-use Rattle.sets.specs.declared.found.Position.{Position}
-use Rattle.sets.specs.declared.found.Position.the-variants.{At}
+use Rattle.sets.specs.declared.answers.Position.{Position}
+use Rattle.sets.specs.declared.answers.Position.the-variants.{At}
 use Rattle.tests.proofs.ExtremeLaws.{greatest-none, greatest-at}
 use Rattle.tests.proofs.ScanLaws.{descend-after, descend-stop}
 use borrow.Author.Needs.{needs}

@@ -9,8 +9,8 @@ use Rattle.sets.specs.Members.{wordsOf}
 use Rattle.sets.proofs.OutcomeLaws.{given-no, given-yes}
 use Rattle.sets.proofs.QuestionLaws.{Valid, valid}
 use Rattle.sets.proofs.WordLaws.{words-hold}
-use Rattle.sets.specs.declared.found.Position.{Position}
-use Rattle.sets.specs.declared.found.Position.the-variants.{At}
+use Rattle.sets.specs.declared.answers.Position.{Position}
+use Rattle.sets.specs.declared.answers.Position.the-variants.{At}
 use Rattle.tests.proofs.ExtremeLaws.{least-none, least-at}
 use Rattle.tests.proofs.ScanLaws.{scan-whole, scan-before, scan-stop}
 use borrow.Author.Needs.{needs}

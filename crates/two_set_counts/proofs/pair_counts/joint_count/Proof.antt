@@ -3,7 +3,7 @@ use mathlib.Core.Path.{_≡_, sym, ap, ap₂, _∙_}
 use Prim.Native.Nat.{ℕ, _+_, min}
 use denote.Ref.{now}
 use Rattle.sets.specs.Members.{read}
-use Rattle.two_sets.specs.Rules.{bothQuestions}
+use Rattle.sets.specs.Questions.{bothQuestions}
 use Rattle.sets.proofs.OutcomeLaws.{given-no, given-yes}
 use Rattle.two_set_counts.specs.Helpers.{jointOnes}
 use Rattle.two_set_counts.proofs.JointLaws.{Common, common}

@@ -19,7 +19,7 @@ returns : tie.Need-returns
 returns c =
     let a = c .before .before .before .args in
     ap (λ (r : Counted). r .count) (c .count-ones .ensures)
-    ∙ ap (λ (n : ℕ). countOnesRule (a .set) n (a .set .length) (now (a .words)) .count) (c .before .lesser .ensures)
+    ∙ ap (λ (n : ℕ). countOnesRule (a .set) (now (a .words)) n (a .set .length) .count) (c .before .lesser .ensures)
     ∙ counted-from (a .set) (now (a .words)) (a .start) (c .before .before .before .pre)
 
 pub ones-from-spec : {M : Type 1} → statement M

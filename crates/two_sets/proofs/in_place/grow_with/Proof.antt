@@ -6,16 +6,14 @@ use denote.Ref.{now}
 use lib.ListN.{length}
 use Rattle.blocks.specs.Sweeps.{swept}
 use Rattle.sets.specs.Members.{wordsOf, read, setOf, empty}
-use Rattle.sets.specs.Questions.{newQuestions, roomQuestion}
+use Rattle.sets.specs.Questions.{newQuestions, roomQuestion, bothQuestions}
 use Rattle.sets.specs.declared.fixed_bit_set.FixedBitSet.{FixedBitSet}
 use Rattle.two_sets.specs.Combined.{combined}
 use Rattle.blocks.specs.Operations.{joinedWord, padded}
-use Rattle.two_sets.specs.Rules.{bothQuestions}
 use Rattle.sets.proofs.OutcomeLaws.{given-no, given-yes}
-use Rattle.sets.proofs.QuestionLaws.{first-no, first-yes, room, room-only}
+use Rattle.sets.proofs.QuestionLaws.{first-no, first-yes, room, room-only, both-valid}
 use Rattle.sets.proofs.WordLaws.{words-mono}
 use Rattle.two_sets.proofs.MemberJoins.{joined-write}
-use Rattle.two_sets.proofs.SetJoins.{both-valid}
 use borrow.Author.Needs.{needs}
 use native.Mathlib.Omega.{arith}
 use Rattle.two_sets.proofs.in_place.grow_with.Statement.{statement}

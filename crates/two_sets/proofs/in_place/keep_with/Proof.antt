@@ -7,10 +7,10 @@ use Rattle.blocks.specs.Sweeps.{swept}
 use Rattle.sets.specs.Members.{read}
 use Rattle.two_sets.specs.Combined.{combined}
 use Rattle.blocks.specs.Operations.{joinedWord, padded}
-use Rattle.two_sets.specs.Rules.{bothQuestions}
+use Rattle.sets.specs.Questions.{bothQuestions}
+use Rattle.sets.proofs.QuestionLaws.{both-valid}
 use Rattle.sets.proofs.OutcomeLaws.{given-no, given-yes}
 use Rattle.two_sets.proofs.MemberJoins.{joined-write}
-use Rattle.two_sets.proofs.SetJoins.{both-valid}
 use borrow.Author.Needs.{needs}
 use native.Mathlib.Omega.{arith}
 use Rattle.two_sets.proofs.in_place.keep_with.Statement.{statement}

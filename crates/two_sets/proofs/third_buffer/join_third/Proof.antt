@@ -6,11 +6,10 @@ use denote.Ref.{now}
 use Rattle.sets.specs.Members.{wordsOf, setOf, empty}
 use Rattle.sets.specs.declared.fixed_bit_set.FixedBitSet.{FixedBitSet}
 use Rattle.two_sets.specs.Combined.{combined}
-use Rattle.two_sets.specs.Rules.{bothQuestions}
+use Rattle.sets.specs.Questions.{bothQuestions}
 use Rattle.sets.proofs.OutcomeLaws.{given-no, given-yes}
-use Rattle.sets.proofs.QuestionLaws.{first-no, first-yes, room, room-only}
+use Rattle.sets.proofs.QuestionLaws.{first-no, first-yes, room, room-only, both-valid}
 use Rattle.two_sets.proofs.MemberJoins.{joined-write}
-use Rattle.two_sets.proofs.SetJoins.{both-valid}
 use borrow.Author.Needs.{needs}
 use native.Mathlib.Omega.{arith}
 use Rattle.two_sets.proofs.third_buffer.join_third.Statement.{statement}

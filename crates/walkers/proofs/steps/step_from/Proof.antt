@@ -6,15 +6,15 @@ use denote.Ref.{now}
 use borrow.Author.Needs.{needs}
 use Rattle.sets.specs.declared.fixed_bit_set.FixedBitSet.{FixedBitSet}
 use Rattle.parts.specs.declared.records.End.{End}
-use Rattle.parts.specs.declared.records.Part.{Part}
+use Rattle.sets.specs.declared.answers.Part.{Part}
 use Rattle.walks.specs.declared.answers.Stepped.{Stepped}
 use Rattle.walkers.specs.Rules.{walkerRule}
 use Rattle.walkers.proofs.steps.step_from.Statement.{statement}
 use Rattle.walkers.proofs.steps.step_from.Tie as tie
 
 -- the step that was taken is the one at that end, over that set
-at-end : (ws : List ℕ) (part : Part) {e k : End} {set set′ : FixedBitSet} {r : Stepped} → e ≡ k → set ≡ set′ → r ≡ walkerRule k set ws part → r ≡ walkerRule e set′ ws part
-at-end ws part told made took = took ∙ (λ i. walkerRule (sym told i) (made i) ws part)
+at-end : (ws : List ℕ) (part : Part) {e k : End} {set set′ : FixedBitSet} {r : Stepped} → e ≡ k → set ≡ set′ → r ≡ walkerRule set ws part k → r ≡ walkerRule set′ ws part e
+at-end ws part told made took = took ∙ (λ i. walkerRule (made i) ws part (sym told i))
 
 new-requires : tie.Need-new-requires
 new-requires c κs = search needs

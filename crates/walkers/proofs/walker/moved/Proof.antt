@@ -26,9 +26,9 @@ use denote.Triple.Spec.{Meets, tripleOf}
 use denote.Triple.Table.{entered}
 use denote.Triple.Walked.{says, Stays, stay-none, walkOf, goes-none, Walks, ends-at, walked, walk-meets}
 use denote.Exit.{yes}
-use Rattle.parts.specs.declared.records.Part.{Part}
-use Rattle.parts.proofs.records.Part as P
-use Rattle.parts.proofs.records.Part.Laws as P′
+use Rattle.sets.specs.declared.answers.Part.{Part}
+use Rattle.sets.proofs.answers.Part as P
+use Rattle.sets.proofs.answers.Part.Laws as P′
 use Rattle.walkers.specs.declared.walker.Ones.{Ones}
 use Rattle.walkers.proofs.WalkerLaws.{Fits, Words, Walker, α, B, twice, words-of, made}
 use Rattle.walkers.proofs.walker.Ones as T

@@ -69,7 +69,7 @@ module _ {M : Type 1} (𝓤 : URA M) (H : Heap 𝓤) (A : Atoms 𝓤) (W : Given
   ve = EL.val E.the-type E′.the-laws e
 
   abbrev found : Stepped
-  found = walkerRule e (setIn d) (now (d .words)) (partIn d)
+  found = walkerRule (setIn d) (now (d .words)) (partIn d) e
 
   abbrev at : Vals step.signature (κ, tt)
   at = (T′.lowered d ∷ [], (ve ∷ [], tt))

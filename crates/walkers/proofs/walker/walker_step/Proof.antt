@@ -41,9 +41,9 @@ use Rattle.sets.proofs.fixed_bit_set.FixedBitSet.Laws as F′
 use Rattle.parts.specs.declared.records.End.{End}
 use Rattle.parts.proofs.records.End as E
 use Rattle.parts.proofs.records.End.Laws as E′
-use Rattle.parts.specs.declared.records.Part.{Part}
-use Rattle.parts.proofs.records.Part as P
-use Rattle.parts.proofs.records.Part.Laws as P′
+use Rattle.sets.specs.declared.answers.Part.{Part}
+use Rattle.sets.proofs.answers.Part as P
+use Rattle.sets.proofs.answers.Part.Laws as P′
 use Rattle.walks.specs.declared.answers.Stepped.{Stepped}
 use Rattle.walks.proofs.answers.Stepped as S
 use Rattle.walks.proofs.answers.Stepped.Laws as S′
@@ -137,7 +137,7 @@ module _ {M : Type 1} (𝓤 : URA M) (H : Heap 𝓤) (A : Atoms 𝓤) (W : Given
   step-said : (r : Ones) (t : Stepped) → ent 𝓤 (ensured 𝓤 H A step.ended (step.clauses 𝓤 H A mem run) (κ, tt) (r, (e, tt)) tt t) (fact 𝓤 (t ≡ found e r))
   step-said r t = exE 𝓤 _ (λ ws. snd∗ 𝓤 (sem 𝓤 H A (lasts step.ended (κ, tt) (r, (e, tt)) ws)) (fact 𝓤 (t ≡ found e r)))
 
-  exits : (r : Stepped) (u : Val) → r ≡ walkerRule e d (now s) p → ent 𝓤 (⋆ 𝓤 H A (‵ (S.the-row .own r (u ∷ [])) ∷ (‵ (flft κ q) ⊛ ‵ ftrue) ∷ ‵ Own ∷ [])) (Post u)
+  exits : (r : Stepped) (u : Val) → r ≡ walkerRule d (now s) p e → ent 𝓤 (⋆ 𝓤 H A (‵ (S.the-row .own r (u ∷ [])) ∷ (‵ (flft κ q) ⊛ ‵ ftrue) ∷ ‵ Own ∷ [])) (Post u)
   exits r u e′ =
       qed W (‵ (S.the-row .own r (u ∷ [])) ∷ (‵ (flft κ q) ⊛ ‵ ftrue) ∷ ‵ Own ∷ []) ∵
       suffices ! _ (ends-at 𝓤 H A own.ended stayed (own.clauses 𝓤 H A mem run) W (((κ, tt), (q, tt), tt, all, at), tt) u r (tt, (tt, (tt, (tt, tt)))) (tt, (tt, (tt, (tt, tt))))) $ says ! e′ $
