@@ -7,10 +7,15 @@ use crate::refusal::{accepted, Refusal};
 #[derive(Clone, Copy, Debug, PartialEq, Eq, Hash)]
 #[repr(u64)]
 pub enum Walk {
+    /// [`crate::Ones`].
     Ones = 0,
+    /// [`crate::Intersection`].
     Intersection = 1,
+    /// [`crate::Difference`].
     Difference = 2,
+    /// [`crate::Union`].
     Union = 3,
+    /// [`crate::SymmetricDifference`].
     SymmetricDifference = 4,
 }
 
@@ -20,8 +25,11 @@ pub const NONE: u64 = u64::MAX;
 /// Both lengths after the calls, and the count of the walk.
 #[derive(Clone, Copy, Debug, PartialEq, Eq)]
 pub struct Ran {
+    /// The length of the first set.
     pub a_length: usize,
+    /// The length of the second set.
     pub b_length: usize,
+    /// How many positions the walk's list has.
     pub count: usize,
 }
 
@@ -31,7 +39,9 @@ pub struct Ran {
 /// `toggle_range`, `set_range`, `clear`, `grow`, `grow_and_insert`, `union_with`, `intersect_with`, `difference_with`, `symmetric_difference_with`), two numbers, and a yes or
 /// no (0 is no). A refused call does nothing. A step is 0 for the front, and any other number for the back; its answer in `out` is the position, or [`NONE`].
 ///
-/// Refused, with nothing written, where a length is too large (6), or a buffer lacks the words for a set or for the answers (7).
+/// # Errors
+/// [`Refusal::NewLength`] where a length is above 65,536, [`Refusal::Room`] where a buffer lacks the words for a set or for the answers. Nothing is
+/// written then.
 ///
 /// ```
 /// use lent_bit_sets::history::{run_history, Walk, NONE};

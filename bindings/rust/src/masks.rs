@@ -7,6 +7,9 @@ use crate::refusal::{accepted, Refusal};
 pub type Masks = ffi::FbsMasks;
 
 /// Is start at most end, and end at most the length?
+///
+/// # Errors
+/// [`Refusal::Range`] where it is not so.
 pub fn ask_range(start: usize, end: usize, length: usize) -> Result<(), Refusal> {
     // SAFETY: plain numbers.
     accepted(unsafe { ffi::fbs_ask_range(start, end, length) }, ())

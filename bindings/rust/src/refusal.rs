@@ -87,8 +87,10 @@ pub(crate) fn accepted<T>(number: u64, answer: T) -> Result<T, Refusal> {
     }
 }
 
-/// The answer of a call that sets which passed questions 1 to 3 leave nothing to refuse.
+/// Sets that passed questions 1 to 3 leave some calls nothing to refuse.
+pub(crate) const UNREFUSED: &str = "a call on whole sets was refused";
+
+/// The answer of such a call.
 pub(crate) fn unrefused<T>(number: u64, answer: T) -> T {
-    assert_eq!(number, 0, "a call on whole sets was refused");
-    answer
+    accepted(number, answer).expect(UNREFUSED)
 }

@@ -1,10 +1,9 @@
-//! Sets that are written.
+//! Sets that are written. What is read of them stands in view.rs.
 
 use crate::ffi::{self, FbsEdited, FbsSet};
 use crate::ranges::ends;
-use crate::refusal::{accepted, unrefused, Refusal};
+use crate::refusal::{accepted, Refusal, UNREFUSED};
 use crate::view::View;
-use crate::walks::{Difference, Intersection, Ones, SymmetricDifference, Union, Zeroes};
 use std::cmp::Ordering;
 use std::ops::RangeBounds;
 
@@ -30,6 +29,9 @@ pub struct FixedBitSet<'w> {
 impl<'w> FixedBitSet<'w> {
     /// A fresh set of `bits` bits with no members.
     ///
+    /// # Errors
+    /// [`Refusal::NewLength`] where `bits` is above 65,536, [`Refusal::Room`] where the words are too few for it.
+    ///
     /// ```
     /// use lent_bit_sets::{FixedBitSet, Refusal};
     /// assert_eq!(FixedBitSet::with_capacity(10, &mut [1])?.as_slice(), [0]);
@@ -40,11 +42,13 @@ impl<'w> FixedBitSet<'w> {
     pub fn with_capacity(bits: usize, words: &'w mut [u64]) -> Result<Self, Refusal> {
         // SAFETY: the pointer and the number of words are those of a slice that is borrowed alone.
         let edited = unsafe { ffi::fbs_with_capacity(bits, words.as_mut_ptr(), words.len()) };
-        accepted(edited.number, ())?;
-        Ok(FixedBitSet::whole(edited.set, words))
+        FixedBitSet::fresh(edited, words)
     }
 
     /// A fresh set of `bits` bits with the members that the blocks name. Missing blocks count as 0; further ones, and bits from `bits` up, do not count.
+    ///
+    /// # Errors
+    /// [`Refusal::NewLength`] where `bits` is above 65,536, [`Refusal::Room`] where the words are too few for it.
     ///
     /// ```
     /// use lent_bit_sets::{FixedBitSet, Refusal};
@@ -54,11 +58,13 @@ impl<'w> FixedBitSet<'w> {
     pub fn with_capacity_and_blocks(bits: usize, blocks: &[u64], words: &'w mut [u64]) -> Result<Self, Refusal> {
         // SAFETY: the pointers and the numbers of words are those of slices, and the one that is written is borrowed alone.
         let edited = unsafe { ffi::fbs_with_capacity_and_blocks(bits, blocks.as_ptr(), blocks.len(), words.as_mut_ptr(), words.len()) };
-        accepted(edited.number, ())?;
-        Ok(FixedBitSet::whole(edited.set, words))
+        FixedBitSet::fresh(edited, words)
     }
 
-    /// The set of `length` bits that already is in the first of the words; refused as [`View::new`] is.
+    /// The set of `length` bits that already is in the first of the words.
+    ///
+    /// # Errors
+    /// As [`View::new`].
     pub fn from_parts(length: usize, words: &'w mut [u64]) -> Result<Self, Refusal> {
         View::new(length, words)?;
         Ok(FixedBitSet { set: FbsSet { length }, words })
@@ -69,9 +75,9 @@ impl<'w> FixedBitSet<'w> {
         (self.set.length, self.words)
     }
 
-    /// A set that passed questions 1 to 3.
-    pub(crate) fn whole(set: FbsSet, words: &'w mut [u64]) -> Self {
-        FixedBitSet { set, words }
+    /// The set that a call has written into the words.
+    pub(crate) fn fresh(edited: FbsEdited, words: &'w mut [u64]) -> Result<Self, Refusal> {
+        accepted(edited.number, FixedBitSet { set: edited.set, words })
     }
 
     /// The set for reading.
@@ -82,16 +88,25 @@ impl<'w> FixedBitSet<'w> {
     // SAFETY of the calls that go through `edited`: it gives them the pointer and the number of words of a slice that is borrowed alone.
 
     /// Makes the position a member.
+    ///
+    /// # Errors
+    /// [`Refusal::Position`] where it is not below the length.
     pub fn insert(&mut self, bit: usize) -> Result<(), Refusal> {
         self.edited(|set, words, size| unsafe { ffi::fbs_insert(set, words, size, bit) })
     }
 
     /// Ends the position's membership.
+    ///
+    /// # Errors
+    /// [`Refusal::Position`] where it is not below the length.
     pub fn remove(&mut self, bit: usize) -> Result<(), Refusal> {
         self.edited(|set, words, size| unsafe { ffi::fbs_remove(set, words, size, bit) })
     }
 
     /// Inserts, and tells whether the position was a member.
+    ///
+    /// # Errors
+    /// [`Refusal::Position`] where it is not below the length.
     ///
     /// ```
     /// use lent_bit_sets::{FixedBitSet, Refusal};
@@ -108,21 +123,33 @@ impl<'w> FixedBitSet<'w> {
     }
 
     /// Flips the position.
+    ///
+    /// # Errors
+    /// [`Refusal::Position`] where it is not below the length.
     pub fn toggle(&mut self, bit: usize) -> Result<(), Refusal> {
         self.edited(|set, words, size| unsafe { ffi::fbs_toggle(set, words, size, bit) })
     }
 
     /// Makes the position a member or not.
+    ///
+    /// # Errors
+    /// [`Refusal::Position`] where it is not below the length.
     pub fn set(&mut self, bit: usize, enabled: bool) -> Result<(), Refusal> {
         self.edited(|set, words, size| unsafe { ffi::fbs_set(set, words, size, bit, enabled) })
     }
 
     /// Gives `to` the state that `from` has; a `from` at or above the length counts as no.
+    ///
+    /// # Errors
+    /// [`Refusal::Position`] where `to` is not below the length.
     pub fn copy_bit(&mut self, from: usize, to: usize) -> Result<(), Refusal> {
         self.edited(|set, words, size| unsafe { ffi::fbs_copy_bit(set, words, size, from, to) })
     }
 
     /// Makes each position of the range a member.
+    ///
+    /// # Errors
+    /// [`Refusal::Range`] where the range is inverted or ends above the length.
     ///
     /// ```
     /// use lent_bit_sets::{FixedBitSet, Refusal};
@@ -139,18 +166,27 @@ impl<'w> FixedBitSet<'w> {
     }
 
     /// Ends the membership of each position of the range.
+    ///
+    /// # Errors
+    /// [`Refusal::Range`] where the range is inverted or ends above the length.
     pub fn remove_range(&mut self, range: impl RangeBounds<usize>) -> Result<(), Refusal> {
         let (start, end) = ends(range, self.set.length);
         self.edited(|set, words, size| unsafe { ffi::fbs_remove_range(set, words, size, start, end) })
     }
 
     /// Flips each position of the range.
+    ///
+    /// # Errors
+    /// [`Refusal::Range`] where the range is inverted or ends above the length.
     pub fn toggle_range(&mut self, range: impl RangeBounds<usize>) -> Result<(), Refusal> {
         let (start, end) = ends(range, self.set.length);
         self.edited(|set, words, size| unsafe { ffi::fbs_toggle_range(set, words, size, start, end) })
     }
 
     /// Makes each position of the range a member or not.
+    ///
+    /// # Errors
+    /// [`Refusal::Range`] where the range is inverted or ends above the length.
     pub fn set_range(&mut self, range: impl RangeBounds<usize>, enabled: bool) -> Result<(), Refusal> {
         let (start, end) = ends(range, self.set.length);
         self.edited(|set, words, size| unsafe { ffi::fbs_set_range(set, words, size, start, end, enabled) })
@@ -158,38 +194,47 @@ impl<'w> FixedBitSet<'w> {
 
     /// Ends every membership.
     pub fn clear(&mut self) {
-        let cleared = self.edited(|set, words, size| unsafe { ffi::fbs_clear(set, words, size) });
-        unrefused(cleared.map_or_else(Refusal::number, |()| 0), ());
+        self.edited(|set, words, size| unsafe { ffi::fbs_clear(set, words, size) }).expect(UNREFUSED);
     }
 
     /// Makes the length the larger of the length and `bits`; the new positions are no members.
+    ///
+    /// # Errors
+    /// [`Refusal::NewLength`] where `bits` is above 65,536, [`Refusal::Room`] where the lent words are too few for it.
     pub fn grow(&mut self, bits: usize) -> Result<(), Refusal> {
         self.edited(|set, words, size| unsafe { ffi::fbs_grow(set, words, size, bits) })
     }
 
     /// Grows to `bit` + 1 and inserts `bit`.
+    ///
+    /// # Errors
+    /// [`Refusal::NewLength`] where `bit` is above 65,535, [`Refusal::Room`] where the lent words are too few for it.
     pub fn grow_and_insert(&mut self, bit: usize) -> Result<(), Refusal> {
         self.edited(|set, words, size| unsafe { ffi::fbs_grow_and_insert(set, words, size, bit) })
     }
 
     /// Inserts the members of the other set; the length becomes the larger of the two.
+    ///
+    /// # Errors
+    /// [`Refusal::Room`] where the lent words are too few for the larger length.
     pub fn union_with<'o>(&mut self, other: impl Into<View<'o>>) -> Result<(), Refusal> {
         self.joined(other.into(), ffi::fbs_union_with)
     }
 
     /// Keeps the members that are in the other set. The length stays.
     pub fn intersect_with<'o>(&mut self, other: impl Into<View<'o>>) {
-        let joined = self.joined(other.into(), ffi::fbs_intersect_with);
-        unrefused(joined.map_or_else(Refusal::number, |()| 0), ());
+        self.joined(other.into(), ffi::fbs_intersect_with).expect(UNREFUSED);
     }
 
     /// Keeps the members that are not in the other set. The length stays.
     pub fn difference_with<'o>(&mut self, other: impl Into<View<'o>>) {
-        let joined = self.joined(other.into(), ffi::fbs_difference_with);
-        unrefused(joined.map_or_else(Refusal::number, |()| 0), ());
+        self.joined(other.into(), ffi::fbs_difference_with).expect(UNREFUSED);
     }
 
     /// Flips the members of the other set; the length becomes the larger of the two.
+    ///
+    /// # Errors
+    /// [`Refusal::Room`] where the lent words are too few for the larger length.
     pub fn symmetric_difference_with<'o>(&mut self, other: impl Into<View<'o>>) -> Result<(), Refusal> {
         self.joined(other.into(), ffi::fbs_symmetric_difference_with)
     }
@@ -209,154 +254,6 @@ impl<'w> FixedBitSet<'w> {
 }
 
 type Join = unsafe extern "C" fn(FbsSet, *mut u64, usize, FbsSet, *const u64, usize) -> FbsEdited;
-
-/// What is read of the set, as [`View`] has it.
-impl FixedBitSet<'_> {
-    /// The length in bits.
-    pub fn len(&self) -> usize {
-        self.view().len()
-    }
-
-    /// Has the set no bits at all?
-    pub fn is_empty(&self) -> bool {
-        self.view().is_empty()
-    }
-
-    /// The set's own words, a part of the lent slice.
-    pub fn as_slice(&self) -> &[u64] {
-        self.view().as_slice()
-    }
-
-    /// Is the position a member? No at or above the length.
-    pub fn contains(&self, bit: usize) -> bool {
-        self.view().contains(bit)
-    }
-
-    /// Is each position of the range a member?
-    pub fn contains_all_in_range(&self, range: impl RangeBounds<usize>) -> Result<bool, Refusal> {
-        self.view().contains_all_in_range(range)
-    }
-
-    /// Is some position of the range a member?
-    pub fn contains_any_in_range(&self, range: impl RangeBounds<usize>) -> Result<bool, Refusal> {
-        self.view().contains_any_in_range(range)
-    }
-
-    /// Is every position a member?
-    pub fn is_full(&self) -> bool {
-        self.view().is_full()
-    }
-
-    /// Has the set no member?
-    pub fn is_clear(&self) -> bool {
-        self.view().is_clear()
-    }
-
-    /// The members in the range.
-    pub fn count_ones(&self, range: impl RangeBounds<usize>) -> Result<usize, Refusal> {
-        self.view().count_ones(range)
-    }
-
-    /// The non-members in the range.
-    pub fn count_zeroes(&self, range: impl RangeBounds<usize>) -> Result<usize, Refusal> {
-        self.view().count_zeroes(range)
-    }
-
-    /// The least member.
-    pub fn minimum(&self) -> Option<usize> {
-        self.view().minimum()
-    }
-
-    /// The greatest member.
-    pub fn maximum(&self) -> Option<usize> {
-        self.view().maximum()
-    }
-
-    /// The intersection, of the smaller length, written into a third buffer.
-    pub fn bitand<'a, 'o>(&'a self, other: impl Into<View<'a>>, out: &'o mut [u64]) -> Result<FixedBitSet<'o>, Refusal> {
-        self.view().bitand(other, out)
-    }
-
-    /// The union, of the larger length, written into a third buffer.
-    pub fn bitor<'a, 'o>(&'a self, other: impl Into<View<'a>>, out: &'o mut [u64]) -> Result<FixedBitSet<'o>, Refusal> {
-        self.view().bitor(other, out)
-    }
-
-    /// The symmetric difference, of the larger length, written into a third buffer.
-    pub fn bitxor<'a, 'o>(&'a self, other: impl Into<View<'a>>, out: &'o mut [u64]) -> Result<FixedBitSet<'o>, Refusal> {
-        self.view().bitxor(other, out)
-    }
-
-    /// How many positions [`union`](Self::union) gives.
-    pub fn union_count<'a>(&'a self, other: impl Into<View<'a>>) -> usize {
-        self.view().union_count(other)
-    }
-
-    /// How many positions [`intersection`](Self::intersection) gives.
-    pub fn intersection_count<'a>(&'a self, other: impl Into<View<'a>>) -> usize {
-        self.view().intersection_count(other)
-    }
-
-    /// How many positions [`difference`](Self::difference) gives.
-    pub fn difference_count<'a>(&'a self, other: impl Into<View<'a>>) -> usize {
-        self.view().difference_count(other)
-    }
-
-    /// How many positions [`symmetric_difference`](Self::symmetric_difference) gives.
-    pub fn symmetric_difference_count<'a>(&'a self, other: impl Into<View<'a>>) -> usize {
-        self.view().symmetric_difference_count(other)
-    }
-
-    /// Have the sets no common member?
-    pub fn is_disjoint<'a>(&'a self, other: impl Into<View<'a>>) -> bool {
-        self.view().is_disjoint(other)
-    }
-
-    /// Is each member in the other set?
-    pub fn is_subset<'a>(&'a self, other: impl Into<View<'a>>) -> bool {
-        self.view().is_subset(other)
-    }
-
-    /// Is each member of the other set in this one?
-    pub fn is_superset<'a>(&'a self, other: impl Into<View<'a>>) -> bool {
-        self.view().is_superset(other)
-    }
-
-    /// The words of the longer set; of equal lengths, the other's.
-    pub fn longer<'a>(&'a self, other: impl Into<View<'a>>) -> &'a [u64] {
-        self.view().longer(other)
-    }
-
-    /// The members, rising.
-    pub fn ones(&self) -> Ones<'_> {
-        self.view().ones()
-    }
-
-    /// The non-members below the length, rising.
-    pub fn zeroes(&self) -> Zeroes<'_> {
-        self.view().zeroes()
-    }
-
-    /// The members that are in the other set, rising.
-    pub fn intersection<'a>(&'a self, other: impl Into<View<'a>>) -> Intersection<'a> {
-        self.view().intersection(other)
-    }
-
-    /// The members that are not in the other set, rising.
-    pub fn difference<'a>(&'a self, other: impl Into<View<'a>>) -> Difference<'a> {
-        self.view().difference(other)
-    }
-
-    /// The members, rising, then those of the other set that are not members, rising.
-    pub fn union<'a>(&'a self, other: impl Into<View<'a>>) -> Union<'a> {
-        self.view().union(other)
-    }
-
-    /// The members that are not in the other set, rising, then those of the other set that are not members, rising.
-    pub fn symmetric_difference<'a>(&'a self, other: impl Into<View<'a>>) -> SymmetricDifference<'a> {
-        self.view().symmetric_difference(other)
-    }
-}
 
 impl<'a> From<&'a FixedBitSet<'_>> for View<'a> {
     fn from(set: &'a FixedBitSet<'_>) -> View<'a> {

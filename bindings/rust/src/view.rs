@@ -1,6 +1,6 @@
-//! Sets that are read.
+//! Sets that are read, and what is read of every set.
 
-use crate::ffi::{self, FbsSet};
+use crate::ffi::{self, FbsCounted, FbsEdited, FbsFound, FbsSet, FbsTold};
 use crate::ranges::ends;
 use crate::refusal::{accepted, unrefused, Refusal};
 use crate::set::FixedBitSet;
@@ -31,13 +31,20 @@ pub struct View<'w> {
 /// The set, the pointer and the number of words.
 pub(crate) type Raw = (FbsSet, *const u64, usize);
 
+type OfOne<T> = unsafe extern "C" fn(FbsSet, *const u64, usize) -> T;
+type OverRange<T> = unsafe extern "C" fn(FbsSet, *const u64, usize, usize, usize) -> T;
+type OfTwo<T> = unsafe extern "C" fn(FbsSet, *const u64, usize, FbsSet, *const u64, usize) -> T;
+type IntoThird = unsafe extern "C" fn(FbsSet, *const u64, usize, FbsSet, *const u64, usize, *mut u64, usize) -> FbsEdited;
+
 impl<'w> View<'w> {
-    /// The set of `length` bits in the first of the words: refused where the length is above 65,536 (1), the words are too few (2), or a bit from
-    /// the length up is set in the set's own words (3). Further words are not looked at.
+    /// The set of `length` bits in the first of the words. Further words are not looked at.
+    ///
+    /// # Errors
+    /// [`Refusal::Length`] where the length is above 65,536, [`Refusal::Words`] where the words are too few for it, [`Refusal::StrayBits`] where a bit
+    /// from the length up is set in the set's own words.
     pub fn new(length: usize, words: &'w [u64]) -> Result<Self, Refusal> {
-        let set = FbsSet { length };
-        // SAFETY: the pointer and the number of words are those of a slice.
-        accepted(unsafe { ffi::fbs_as_slice_number(set, words.as_ptr(), words.len()) }, View { set, words })
+        let set = View { set: FbsSet { length }, words };
+        accepted(set.ask(ffi::fbs_as_slice_number), set)
     }
 
     /// A set that passed questions 1 to 3.
@@ -49,98 +56,159 @@ impl<'w> View<'w> {
         (self.set, self.words.as_ptr(), self.words.len())
     }
 
-    // SAFETY of the calls that go through `told`: it gives them the pointer and the number of words of a slice.
-
-    /// The length in bits.
-    pub fn len(self) -> usize {
+    fn ask<T>(self, call: OfOne<T>) -> T {
         let (set, words, size) = self.raw();
         // SAFETY: the pointer and the number of words are those of a slice.
-        let counted = unsafe { ffi::fbs_len(set, words, size) };
-        unrefused(counted.number, counted.count)
+        unsafe { call(set, words, size) }
+    }
+
+    fn ask_over<T>(self, range: impl RangeBounds<usize>, call: OverRange<T>) -> T {
+        let ((set, words, size), (start, end)) = (self.raw(), ends(range, self.set.length));
+        // SAFETY: the pointer and the number of words are those of a slice.
+        unsafe { call(set, words, size, start, end) }
+    }
+
+    fn ask_with<T>(self, other: impl Into<View<'w>>, call: OfTwo<T>) -> T {
+        let ((a, words, size), (b, others, other_size)) = (self.raw(), other.into().raw());
+        // SAFETY: the pointers and the numbers of words are those of slices.
+        unsafe { call(a, words, size, b, others, other_size) }
+    }
+
+    fn third<'o>(self, other: impl Into<View<'w>>, out: &'o mut [u64], call: IntoThird) -> Result<FixedBitSet<'o>, Refusal> {
+        let ((a, words, size), (b, others, other_size)) = (self.raw(), other.into().raw());
+        // SAFETY: the pointers and the numbers of words are those of slices, and the one that is written is borrowed alone.
+        let edited = unsafe { call(a, words, size, b, others, other_size, out.as_mut_ptr(), out.len()) };
+        FixedBitSet::fresh(edited, out)
+    }
+}
+
+fn told(told: FbsTold) -> bool {
+    unrefused(told.number, told.yes)
+}
+
+fn counted(counted: FbsCounted) -> usize {
+    unrefused(counted.number, counted.count)
+}
+
+fn found(found: FbsFound) -> Option<usize> {
+    unrefused(found.number, found.found.then_some(found.at))
+}
+
+/// Writes each method for [`View`], and for [`FixedBitSet`] as the same method of its view. The two differ in the receiver and in how long an answer
+/// can be kept, `'w`: as long as the words of a view are lent, or as long as a set is borrowed. Methods of a trait would have to be imported.
+macro_rules! of_both_types {
+    ($(
+        $(#[$doc:meta])*
+        pub fn $name:ident$(<$out:lifetime>)?($self:ident $(, $given:ident: $type:ty)*) -> $answer:ty $body:block
+    )*) => {
+        impl<'w> View<'w> {
+            $($(#[$doc])*
+            pub fn $name$(<$out>)?($self $(, $given: $type)*) -> $answer $body)*
+        }
+
+        // Only the answers that borrow the set need `'w`.
+        #[allow(clippy::needless_lifetimes)]
+        impl FixedBitSet<'_> {
+            $($(#[$doc])*
+            pub fn $name<'w $(, $out)?>(&'w self $(, $given: $type)*) -> $answer {
+                self.view().$name($($given),*)
+            })*
+        }
+    };
+}
+
+of_both_types! {
+    /// The length in bits.
+    pub fn len(self) -> usize {
+        counted(self.ask(ffi::fbs_len))
     }
 
     /// Has the set no bits at all?
     pub fn is_empty(self) -> bool {
-        self.told(|set, words, size| unsafe { ffi::fbs_is_empty(set, words, size) })
+        told(self.ask(ffi::fbs_is_empty))
     }
 
     /// The set's own words, a part of the lent slice.
     pub fn as_slice(self) -> &'w [u64] {
-        let (set, words, size) = self.raw();
-        // SAFETY: the pointer and the number of words are those of a slice.
-        let part = unsafe { ffi::fbs_as_slice(set, words, size) };
+        let part = self.ask(ffi::fbs_as_slice);
         &self.words[part.offset..part.offset + part.count]
     }
 
     /// Is the position a member? No at or above the length.
     pub fn contains(self, bit: usize) -> bool {
-        self.told(|set, words, size| unsafe { ffi::fbs_contains(set, words, size, bit) })
+        let (set, words, size) = self.raw();
+        // SAFETY: the pointer and the number of words are those of a slice.
+        told(unsafe { ffi::fbs_contains(set, words, size, bit) })
     }
 
     /// Is each position of the range a member?
+    ///
+    /// # Errors
+    /// [`Refusal::Range`] where the range is inverted or ends above the length.
     pub fn contains_all_in_range(self, range: impl RangeBounds<usize>) -> Result<bool, Refusal> {
-        let ((set, words, size), (start, end)) = (self.raw(), ends(range, self.set.length));
-        // SAFETY: the pointer and the number of words are those of a slice.
-        let told = unsafe { ffi::fbs_contains_all_in_range(set, words, size, start, end) };
+        let told = self.ask_over(range, ffi::fbs_contains_all_in_range);
         accepted(told.number, told.yes)
     }
 
     /// Is some position of the range a member?
+    ///
+    /// # Errors
+    /// [`Refusal::Range`] where the range is inverted or ends above the length.
     pub fn contains_any_in_range(self, range: impl RangeBounds<usize>) -> Result<bool, Refusal> {
-        let ((set, words, size), (start, end)) = (self.raw(), ends(range, self.set.length));
-        // SAFETY: the pointer and the number of words are those of a slice.
-        let told = unsafe { ffi::fbs_contains_any_in_range(set, words, size, start, end) };
+        let told = self.ask_over(range, ffi::fbs_contains_any_in_range);
         accepted(told.number, told.yes)
     }
 
     /// Is every position a member?
     pub fn is_full(self) -> bool {
-        self.told(|set, words, size| unsafe { ffi::fbs_is_full(set, words, size) })
+        told(self.ask(ffi::fbs_is_full))
     }
 
     /// Has the set no member?
     pub fn is_clear(self) -> bool {
-        self.told(|set, words, size| unsafe { ffi::fbs_is_clear(set, words, size) })
+        told(self.ask(ffi::fbs_is_clear))
     }
 
     /// The members in the range.
+    ///
+    /// # Errors
+    /// [`Refusal::Range`] where the range is inverted or ends above the length.
     pub fn count_ones(self, range: impl RangeBounds<usize>) -> Result<usize, Refusal> {
-        let ((set, words, size), (start, end)) = (self.raw(), ends(range, self.set.length));
-        // SAFETY: the pointer and the number of words are those of a slice.
-        let counted = unsafe { ffi::fbs_count_ones(set, words, size, start, end) };
+        let counted = self.ask_over(range, ffi::fbs_count_ones);
         accepted(counted.number, counted.count)
     }
 
     /// The non-members in the range.
+    ///
+    /// # Errors
+    /// [`Refusal::Range`] where the range is inverted or ends above the length.
     pub fn count_zeroes(self, range: impl RangeBounds<usize>) -> Result<usize, Refusal> {
-        let ((set, words, size), (start, end)) = (self.raw(), ends(range, self.set.length));
-        // SAFETY: the pointer and the number of words are those of a slice.
-        let counted = unsafe { ffi::fbs_count_zeroes(set, words, size, start, end) };
+        let counted = self.ask_over(range, ffi::fbs_count_zeroes);
         accepted(counted.number, counted.count)
     }
 
     /// The least member.
     pub fn minimum(self) -> Option<usize> {
-        let (set, words, size) = self.raw();
-        // SAFETY: the pointer and the number of words are those of a slice.
-        let found = unsafe { ffi::fbs_minimum(set, words, size) };
-        unrefused(found.number, found.found.then_some(found.at))
+        found(self.ask(ffi::fbs_minimum))
     }
 
     /// The greatest member.
     pub fn maximum(self) -> Option<usize> {
-        let (set, words, size) = self.raw();
-        // SAFETY: the pointer and the number of words are those of a slice.
-        let found = unsafe { ffi::fbs_maximum(set, words, size) };
-        unrefused(found.number, found.found.then_some(found.at))
+        found(self.ask(ffi::fbs_maximum))
     }
 
     /// The intersection, of the smaller length, written into a third buffer.
+    ///
+    /// # Errors
+    /// [`Refusal::Room`] where the buffer has too few words.
     pub fn bitand<'o>(self, other: impl Into<View<'w>>, out: &'o mut [u64]) -> Result<FixedBitSet<'o>, Refusal> {
-        self.third(other.into(), out, ffi::fbs_bitand)
+        self.third(other, out, ffi::fbs_bitand)
     }
 
     /// The union, of the larger length, written into a third buffer.
+    ///
+    /// # Errors
+    /// [`Refusal::Room`] where the buffer has too few words.
     ///
     /// ```
     /// use lent_bit_sets::{Refusal, View};
@@ -153,55 +221,56 @@ impl<'w> View<'w> {
     /// # Ok::<(), Refusal>(())
     /// ```
     pub fn bitor<'o>(self, other: impl Into<View<'w>>, out: &'o mut [u64]) -> Result<FixedBitSet<'o>, Refusal> {
-        self.third(other.into(), out, ffi::fbs_bitor)
+        self.third(other, out, ffi::fbs_bitor)
     }
 
     /// The symmetric difference, of the larger length, written into a third buffer.
+    ///
+    /// # Errors
+    /// [`Refusal::Room`] where the buffer has too few words.
     pub fn bitxor<'o>(self, other: impl Into<View<'w>>, out: &'o mut [u64]) -> Result<FixedBitSet<'o>, Refusal> {
-        self.third(other.into(), out, ffi::fbs_bitxor)
+        self.third(other, out, ffi::fbs_bitxor)
     }
 
     /// How many positions [`union`](Self::union) gives.
     pub fn union_count(self, other: impl Into<View<'w>>) -> usize {
-        self.counted_with(other.into(), ffi::fbs_union_count)
+        counted(self.ask_with(other, ffi::fbs_union_count))
     }
 
     /// How many positions [`intersection`](Self::intersection) gives.
     pub fn intersection_count(self, other: impl Into<View<'w>>) -> usize {
-        self.counted_with(other.into(), ffi::fbs_intersection_count)
+        counted(self.ask_with(other, ffi::fbs_intersection_count))
     }
 
     /// How many positions [`difference`](Self::difference) gives.
     pub fn difference_count(self, other: impl Into<View<'w>>) -> usize {
-        self.counted_with(other.into(), ffi::fbs_difference_count)
+        counted(self.ask_with(other, ffi::fbs_difference_count))
     }
 
     /// How many positions [`symmetric_difference`](Self::symmetric_difference) gives.
     pub fn symmetric_difference_count(self, other: impl Into<View<'w>>) -> usize {
-        self.counted_with(other.into(), ffi::fbs_symmetric_difference_count)
+        counted(self.ask_with(other, ffi::fbs_symmetric_difference_count))
     }
 
     /// Have the sets no common member?
     pub fn is_disjoint(self, other: impl Into<View<'w>>) -> bool {
-        self.told_with(other.into(), ffi::fbs_is_disjoint)
+        told(self.ask_with(other, ffi::fbs_is_disjoint))
     }
 
     /// Is each member in the other set?
     pub fn is_subset(self, other: impl Into<View<'w>>) -> bool {
-        self.told_with(other.into(), ffi::fbs_is_subset)
+        told(self.ask_with(other, ffi::fbs_is_subset))
     }
 
     /// Is each member of the other set in this one?
     pub fn is_superset(self, other: impl Into<View<'w>>) -> bool {
-        self.told_with(other.into(), ffi::fbs_is_superset)
+        told(self.ask_with(other, ffi::fbs_is_superset))
     }
 
     /// The words of the longer set; of equal lengths, the other's.
     pub fn longer(self, other: impl Into<View<'w>>) -> &'w [u64] {
         let other = other.into();
-        let ((a, words, size), (b, others, other_size)) = (self.raw(), other.raw());
-        // SAFETY: the pointers and the numbers of words are those of slices.
-        let part = unsafe { ffi::fbs_longer(a, words, size, b, others, other_size) };
+        let part = self.ask_with(other, ffi::fbs_longer);
         let slice = if part.second { other.words } else { self.words };
         &slice[part.offset..part.offset + part.count]
     }
@@ -235,44 +304,12 @@ impl<'w> View<'w> {
     pub fn symmetric_difference(self, other: impl Into<View<'w>>) -> SymmetricDifference<'w> {
         SymmetricDifference::new(self, other.into())
     }
-
-    /// A test of a whole set; `ask` calls it with the pointer and the number of words of a slice.
-    fn told(self, ask: impl FnOnce(FbsSet, *const u64, usize) -> ffi::FbsTold) -> bool {
-        let (set, words, size) = self.raw();
-        let told = ask(set, words, size);
-        unrefused(told.number, told.yes)
-    }
-
-    fn told_with(self, other: View<'_>, ask: OfTwo<ffi::FbsTold>) -> bool {
-        let ((a, words, size), (b, others, other_size)) = (self.raw(), other.raw());
-        // SAFETY: the pointers and the numbers of words are those of slices.
-        let told = unsafe { ask(a, words, size, b, others, other_size) };
-        unrefused(told.number, told.yes)
-    }
-
-    fn counted_with(self, other: View<'_>, ask: OfTwo<ffi::FbsCounted>) -> usize {
-        let ((a, words, size), (b, others, other_size)) = (self.raw(), other.raw());
-        // SAFETY: the pointers and the numbers of words are those of slices.
-        let counted = unsafe { ask(a, words, size, b, others, other_size) };
-        unrefused(counted.number, counted.count)
-    }
-
-    fn third<'o>(self, other: View<'_>, out: &'o mut [u64], ask: IntoThird) -> Result<FixedBitSet<'o>, Refusal> {
-        let ((a, words, size), (b, others, other_size)) = (self.raw(), other.raw());
-        // SAFETY: the pointers and the numbers of words are those of slices, and the one that is written is borrowed alone.
-        let edited = unsafe { ask(a, words, size, b, others, other_size, out.as_mut_ptr(), out.len()) };
-        accepted(edited.number, ())?;
-        Ok(FixedBitSet::whole(edited.set, out))
-    }
 }
-
-type OfTwo<T> = unsafe extern "C" fn(FbsSet, *const u64, usize, FbsSet, *const u64, usize) -> T;
-type IntoThird = unsafe extern "C" fn(FbsSet, *const u64, usize, FbsSet, *const u64, usize, *mut u64, usize) -> ffi::FbsEdited;
 
 /// Equal length and members.
 impl PartialEq for View<'_> {
     fn eq(&self, other: &Self) -> bool {
-        self.told_with(*other, ffi::fbs_eq)
+        told(self.ask_with(*other, ffi::fbs_eq))
     }
 }
 
@@ -287,9 +324,7 @@ impl PartialOrd for View<'_> {
 /// Length first, then words from word 0 upwards.
 impl Ord for View<'_> {
     fn cmp(&self, other: &Self) -> Ordering {
-        let ((a, words, size), (b, others, other_size)) = (self.raw(), other.raw());
-        // SAFETY: the pointers and the numbers of words are those of slices.
-        let compared = unsafe { ffi::fbs_cmp(a, words, size, b, others, other_size) };
+        let compared = self.ask_with(*other, ffi::fbs_cmp);
         match unrefused(compared.number, compared.order) {
             0 => Ordering::Equal,
             1 => Ordering::Less,

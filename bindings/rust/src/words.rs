@@ -23,6 +23,9 @@ pub fn trailing_zeros(word: u64) -> usize {
 
 /// The position of the lowest one, and the word without it.
 ///
+/// # Errors
+/// [`Refusal::NoBit`] where the word is 0.
+///
 /// ```
 /// use lent_bit_sets::{words, Refusal};
 /// assert_eq!(words::last_positive_bit_and_unset(12), Ok((2, 8)));
