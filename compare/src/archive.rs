@@ -1,6 +1,6 @@
 //! The engine's archive, through the raw C interface of the bindings.
 
-use crate::cases::{Answer, Call, Case, Edit, Engine, History, Lent, Outcome, Ran, Record, Walk, WalkCase, Walked};
+use crate::cases::{accepted, Answer, Call, Case, Edit, Engine, History, Lent, Outcome, Ran, Record, Walk, WalkCase, Walked};
 use lent_bit_sets::ffi::*;
 
 pub struct Archive;
@@ -36,10 +36,6 @@ fn counted(counted: FbsCounted) -> Outcome {
 
 fn extreme(at: FbsFound) -> Outcome {
     Outcome { number: at.number, answer: Answer::Found(found(at.found, at.at)) }
-}
-
-fn accepted(answer: Answer) -> Outcome {
-    Outcome { number: 0, answer }
 }
 
 fn edit(edit: Edit, a: &mut Lent, b: &mut Lent) -> Outcome {

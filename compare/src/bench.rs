@@ -34,6 +34,11 @@ fn lend(words: &mut [u64]) -> FixedBitSet<'_> {
     FixedBitSet::from_parts(MOST, words).expect("a whole set")
 }
 
+/// An edit of the engine's set in a copy of the words.
+fn edited(words: &[u64], mut edit: impl FnMut(FixedBitSet<'_>)) -> Duration {
+    least(|| words.to_vec(), |words| edit(lend(words)))
+}
+
 pub fn run(seed: u64) {
     let mut random = Prng::new(seed);
     let half = |random: &mut Prng| -> Vec<u64> { (0..MOST / 64).map(|_| random.word()).collect() };
@@ -58,25 +63,13 @@ pub fn run(seed: u64) {
     row(
         &format!("insert of {POSITIONS} random positions"),
         least(|| a.clone(), |set| positions.iter().for_each(|p| set.insert(*p))),
-        least(
-            || words.clone(),
-            |words| {
-                let mut set = lend(words);
-                positions.iter().for_each(|p| set.insert(*p).expect("a position in the set"));
-            },
-        ),
+        edited(&words, |mut set| positions.iter().for_each(|p| set.insert(*p).expect("a position in the set"))),
     );
     for (name, ranges) in [("random", &ranges), ("100-bit", &short)] {
         row(
             &format!("insert_range of {RANGES} {name} ranges"),
             least(|| a.clone(), |set| ranges.iter().for_each(|(start, end)| set.insert_range(*start..*end))),
-            least(
-                || words.clone(),
-                |words| {
-                    let mut set = lend(words);
-                    ranges.iter().for_each(|(start, end)| set.insert_range(*start..*end).expect("a range in the set"));
-                },
-            ),
+            edited(&words, |mut set| ranges.iter().for_each(|(start, end)| set.insert_range(*start..*end).expect("a range in the set"))),
         );
     }
     row(

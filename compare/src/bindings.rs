@@ -1,6 +1,7 @@
 //! The engine's archive through the safe types of the bindings. They cannot hold a damaged set, so they are asked whole ones.
 
-use crate::cases::{Answer, Call, Case, Edit, Engine, History, Lent, Outcome, Ran, Walk, WalkCase, Walked};
+use crate::by_name::{ask_by_name, steps};
+use crate::cases::{accepted, Answer, Call, Case, Edit, Engine, History, Lent, Outcome, Ran, Walk, WalkCase, Walked};
 use lent_bit_sets::history::{run_history, Walk as HistoryWalk};
 use lent_bit_sets::{masks, words, FixedBitSet, Refusal, View};
 use std::cmp::Ordering;
@@ -15,14 +16,16 @@ fn number<T>(result: &Result<T, Refusal>) -> u64 {
     result.as_ref().map_or_else(|refusal| refusal.number(), |_| 0)
 }
 
-fn accepted(answer: Answer) -> Option<Outcome> {
-    Some(Outcome { number: 0, answer })
+/// An answer, or the number of its refusal with the answer of one.
+fn outcome<T: Default>(result: Result<T, Refusal>, answer: impl Fn(T) -> Answer) -> Outcome {
+    Outcome { number: number(&result), answer: answer(result.unwrap_or_default()) }
 }
 
-/// An answer, or the number of its refusal with the answer of one.
-fn outcome<T: Default>(result: Result<T, Refusal>, answer: impl Fn(T) -> Answer) -> Option<Outcome> {
-    Some(Outcome { number: number(&result), answer: answer(result.unwrap_or_default()) })
+fn ranged<T: Default>(ask: impl FnOnce() -> Result<T, Refusal>, answer: fn(T) -> Answer) -> Outcome {
+    outcome(ask(), answer)
 }
+
+ask_by_name!(View<'_>);
 
 fn edit(edit: Edit, a: &mut Lent, b: &Lent) -> Option<Outcome> {
     let mut set = FixedBitSet::from_parts(a.length, &mut a.words).ok()?;
@@ -33,7 +36,7 @@ fn edit(edit: Edit, a: &mut Lent, b: &Lent) -> Option<Outcome> {
         Edit::Put(p) => {
             let was = set.put(p);
             let length = set.len();
-            return outcome(was, |was| Answer::Put { length, was });
+            return Some(outcome(was, |was| Answer::Put { length, was }));
         }
         Edit::Toggle(p) => set.toggle(p),
         Edit::Set(p, enabled) => set.set(p, enabled),
@@ -62,64 +65,39 @@ fn edit(edit: Edit, a: &mut Lent, b: &Lent) -> Option<Outcome> {
     Some(Outcome { number: number(&result), answer: Answer::Length(set.len()) })
 }
 
-fn fresh(made: Result<FixedBitSet<'_>, Refusal>) -> Option<Outcome> {
-    Some(Outcome { number: number(&made), answer: Answer::Length(made.map_or(0, |set| set.len())) })
+fn fresh(made: Result<FixedBitSet<'_>, Refusal>) -> Outcome {
+    Outcome { number: number(&made), answer: Answer::Length(made.map_or(0, |set| set.len())) }
 }
 
 fn third(case: &mut Case) -> Option<Outcome> {
     let (a, b) = (view(&case.a)?, view(&case.b)?);
-    fresh(match case.call {
+    Some(fresh(match case.call {
         Call::BitAnd => a.bitand(b, &mut case.out),
         Call::BitOr => a.bitor(b, &mut case.out),
         _ => a.bitxor(b, &mut case.out),
-    })
+    }))
 }
 
-fn of_one(case: &Case) -> Option<Outcome> {
-    let set = view(&case.a)?;
-    match case.call {
-        Call::Len => accepted(Answer::Count(set.len())),
-        Call::IsEmpty => accepted(Answer::Yes(set.is_empty())),
-        Call::AsSlice => accepted(Answer::part(false, 0, set.as_slice().len())),
-        Call::Contains(p) => accepted(Answer::Yes(set.contains(p))),
-        Call::ContainsAllInRange(start, end) => outcome(set.contains_all_in_range(start..end), Answer::Yes),
-        Call::ContainsAnyInRange(start, end) => outcome(set.contains_any_in_range(start..end), Answer::Yes),
-        Call::IsFull => accepted(Answer::Yes(set.is_full())),
-        Call::IsClear => accepted(Answer::Yes(set.is_clear())),
-        Call::CountOnes(start, end) => outcome(set.count_ones(start..end), Answer::Count),
-        Call::CountZeroes(start, end) => outcome(set.count_zeroes(start..end), Answer::Count),
-        Call::Minimum => accepted(Answer::Found(set.minimum())),
-        Call::Maximum => accepted(Answer::Found(set.maximum())),
-        _ => None,
-    }
+/// The part is of the second slice where it starts as that does.
+fn longer(case: &Case) -> Option<Outcome> {
+    let longer = view(&case.a)?.longer(view(&case.b)?);
+    Some(accepted(Answer::part(!longer.is_empty() && longer.as_ptr() == case.b.words.as_ptr(), 0, longer.len())))
 }
 
-fn of_two(case: &Case) -> Option<Outcome> {
-    let (a, b) = (view(&case.a)?, view(&case.b)?);
-    accepted(match case.call {
-        Call::UnionCount => Answer::Count(a.union_count(b)),
-        Call::IntersectionCount => Answer::Count(a.intersection_count(b)),
-        Call::DifferenceCount => Answer::Count(a.difference_count(b)),
-        Call::SymmetricDifferenceCount => Answer::Count(a.symmetric_difference_count(b)),
-        Call::IsDisjoint => Answer::Yes(a.is_disjoint(b)),
-        Call::IsSubset => Answer::Yes(a.is_subset(b)),
-        Call::IsSuperset => Answer::Yes(a.is_superset(b)),
-        Call::Eq => Answer::Yes(a == b),
-        Call::Cmp => Answer::Order(match a.cmp(&b) {
-            Ordering::Equal => 0,
-            Ordering::Less => 1,
-            Ordering::Greater => 2,
-        }),
-        Call::Longer => {
-            let longer = a.longer(b);
-            Answer::part(!longer.is_empty() && longer.as_ptr() == case.b.words.as_ptr(), 0, longer.len())
+/// Calls on no set.
+fn of_words(call: Call) -> Option<Outcome> {
+    Some(match call {
+        Call::WordCountOnes(word) => accepted(Answer::Count(words::count_ones(word))),
+        Call::WordLeadingZeros(word) => accepted(Answer::Count(words::leading_zeros(word))),
+        Call::WordTrailingZeros(word) => accepted(Answer::Count(words::trailing_zeros(word))),
+        Call::LastPositiveBitAndUnset(word) => {
+            outcome(words::last_positive_bit_and_unset(word), |(position, rest)| Answer::LastBit { position, rest })
         }
+        Call::LowMask(r) => accepted(Answer::Word(words::low_mask(r))),
+        Call::AskRange { start, end, length } => accepted(Answer::Word(number(&masks::ask_range(start, end, length)))),
+        Call::RangeMask { start, end, word } => accepted(Answer::Word(masks::range_mask(start, end, word))),
         _ => return None,
     })
-}
-
-fn steps(mut iterator: impl DoubleEndedIterator<Item = usize>, back: &[bool]) -> Vec<Option<usize>> {
-    back.iter().map(|back| if *back { iterator.next_back() } else { iterator.next() }).collect()
 }
 
 impl Engine for Bindings {
@@ -130,38 +108,19 @@ impl Engine for Bindings {
     fn call(&self, case: &mut Case) -> Option<Outcome> {
         match case.call {
             Call::Edit(call) => edit(call, &mut case.a, &case.b),
-            Call::WithCapacity(n) => fresh(FixedBitSet::with_capacity(n, &mut case.a.words)),
-            Call::WithCapacityAndBlocks(n) => fresh(FixedBitSet::with_capacity_and_blocks(n, &case.b.words, &mut case.a.words)),
+            Call::WithCapacity(n) => Some(fresh(FixedBitSet::with_capacity(n, &mut case.a.words))),
+            Call::WithCapacityAndBlocks(n) => Some(fresh(FixedBitSet::with_capacity_and_blocks(n, &case.b.words, &mut case.a.words))),
             Call::BitAnd | Call::BitOr | Call::BitXor => third(case),
-            Call::WordCountOnes(word) => accepted(Answer::Count(words::count_ones(word))),
-            Call::WordLeadingZeros(word) => accepted(Answer::Count(words::leading_zeros(word))),
-            Call::WordTrailingZeros(word) => accepted(Answer::Count(words::trailing_zeros(word))),
-            Call::LastPositiveBitAndUnset(word) => {
-                outcome(words::last_positive_bit_and_unset(word), |(position, rest)| Answer::LastBit { position, rest })
-            }
-            Call::LowMask(r) => accepted(Answer::Word(words::low_mask(r))),
-            Call::AskRange { start, end, length } => accepted(Answer::Word(number(&masks::ask_range(start, end, length)))),
-            Call::RangeMask { start, end, word } => accepted(Answer::Word(masks::range_mask(start, end, word))),
-            call if call.reads_second() => of_two(case),
-            _ => of_one(case),
+            Call::Longer => longer(case),
+            call if call.reads_second() => of_two(call, view(&case.a)?, view(&case.b)?),
+            call => of_words(call).or_else(|| of_one(call, view(&case.a)?)),
         }
     }
 
     fn walk(&self, case: &WalkCase) -> Option<Walked> {
         let a = view(&case.a)?;
         let b = if case.walk.of_two_sets() { view(&case.b)? } else { a };
-        let answers = match case.walk {
-            Walk::Ones => steps(a.ones(), &case.back),
-            Walk::Zeroes if case.back.contains(&true) => return None,
-            Walk::Zeroes => {
-                let mut iterator = a.zeroes();
-                case.back.iter().map(|_| iterator.next()).collect()
-            }
-            Walk::Intersection => steps(a.intersection(b), &case.back),
-            Walk::Difference => steps(a.difference(b), &case.back),
-            Walk::Union => steps(a.union(b), &case.back),
-            Walk::SymmetricDifference => steps(a.symmetric_difference(b), &case.back),
-        };
+        let answers = walk_sets(case.walk, a, b, &case.back)?;
         Some(Walked { number: 0, answers, records: None })
     }
 

@@ -7,6 +7,10 @@ pub struct Lent {
     pub words: Vec<u64>,
 }
 
+impl Lent {
+    pub const EMPTY: Lent = Lent { length: 0, words: Vec::new() };
+}
+
 /// The calls of a history, in the order of their numbers.
 #[derive(Clone, Copy, Debug, PartialEq, Eq)]
 pub enum Edit {
@@ -57,6 +61,14 @@ impl Edit {
         })
     }
 
+    /// The call of five numbers, of which the first is the set; none of fewer.
+    pub fn of_five(five: &[u64]) -> Option<Edit> {
+        match *five {
+            [_, code, x, y, z] => Edit::decode(code, x as usize, y as usize, z != 0),
+            _ => None,
+        }
+    }
+
     /// The set (0 or 1), the call, two numbers and a yes or no.
     pub fn encode(self, on: u64) -> [u64; 5] {
         let (code, x, y, z) = match self {
@@ -100,6 +112,8 @@ pub enum Walk {
 impl Walk {
     /// The walks of a history, in the order of their numbers.
     pub const OF_HISTORIES: [Walk; 5] = [Walk::Ones, Walk::Intersection, Walk::Difference, Walk::Union, Walk::SymmetricDifference];
+
+    pub const OF_TWO_SETS: [Walk; 4] = [Walk::Intersection, Walk::Difference, Walk::Union, Walk::SymmetricDifference];
 
     pub const ALL: [Walk; 6] = [Walk::Ones, Walk::Zeroes, Walk::Intersection, Walk::Difference, Walk::Union, Walk::SymmetricDifference];
 
@@ -266,6 +280,10 @@ impl Answer {
 pub struct Outcome {
     pub number: u64,
     pub answer: Answer,
+}
+
+pub fn accepted(answer: Answer) -> Outcome {
+    Outcome { number: 0, answer }
 }
 
 /// A walk from its first records on; `back` says of each step at which end it is.

@@ -73,7 +73,7 @@ fn pair(judge: &mut Judge, length: usize, a: &Lent, other: usize, b: &Lent) -> R
             judge.check(&Case { call, a: a.clone(), b: b.clone(), out: vec![CALLERS; room] })?;
         }
     }
-    for walk in Walk::ALL.into_iter().filter(|walk| walk.of_two_sets()) {
+    for walk in Walk::OF_TWO_SETS {
         for back in [false, true] {
             for one in records(length) {
                 for two in records(other) {

@@ -36,29 +36,20 @@ fn around(judge: &mut Judge, random: &mut Prng, n: usize, all: bool) -> Result<(
     let ends = set(n, further, |p| p == 0 || p + 1 == n);
     let mixed = random_set(random, n, further);
     let bare = set(n, further, |_| false);
+    let sets = [&mixed, &full, &bare];
     let edge = n.saturating_sub(1) / 64 * 64;
     for call in PLAIN {
         judge.check(&one(call, ends.clone()))?;
         judge.check(&one(call, full.clone()))?;
     }
     for p in [0, edge.saturating_sub(1), edge, n.saturating_sub(1), n] {
-        for call in picked(random, at_position(p), all, 1) {
-            for set in [&mixed, &full, &bare] {
-                if all || random.once_in(2) {
-                    judge.check(&one(call, set.clone()))?;
-                }
-            }
-        }
+        let calls = picked(random, at_position(p), all, 1);
+        on_each(judge, random, &calls, sets, all)?;
         judge.check(&one(Call::Edit(Edit::CopyBit(n.saturating_sub(1), p)), ends.clone()))?;
     }
     for (start, end) in [(0, n), (edge, n), (0, edge), (n, n), (n.saturating_sub(1), n), (edge.saturating_sub(1), edge + 1), (n, n + 1), (n + 1, n)] {
-        for call in picked(random, over_range(start, end), all, 2) {
-            for set in [&mixed, &full, &bare] {
-                if all || random.once_in(2) {
-                    judge.check(&one(call, set.clone()))?;
-                }
-            }
-        }
+        let calls = picked(random, over_range(start, end), all, 2);
+        on_each(judge, random, &calls, sets, all)?;
     }
     for longer in [n, n + 1, n + 64, edge + 64, edge + 65, MOST, MOST + 1] {
         for call in picked(random, to_length(longer), all, 1) {
@@ -71,6 +62,18 @@ fn around(judge: &mut Judge, random: &mut Prng, n: usize, all: bool) -> Result<(
     }
     beside(judge, random, n, &mixed, all)?;
     last_steps(judge, random, n, &mixed, &ends)
+}
+
+/// The calls on each of the sets, or on some.
+fn on_each(judge: &mut Judge, random: &mut Prng, calls: &[Call], sets: [&Lent; 3], all: bool) -> Result<(), Difference> {
+    for call in calls {
+        for set in sets {
+            if all || random.once_in(2) {
+                judge.check(&one(*call, set.clone()))?;
+            }
+        }
+    }
+    Ok(())
 }
 
 /// With a second set of about the same length.
@@ -113,28 +116,27 @@ fn last_steps(judge: &mut Judge, random: &mut Prng, n: usize, mixed: &Lent, ends
 
 /// One word and the masks of ranges.
 fn words(judge: &mut Judge, random: &mut Prng) -> Result<(), Difference> {
-    let none = Lent { length: 0, words: Vec::new() };
     let mut plain: Vec<u64> = vec![0, 1, 2, 12, u64::MAX, u64::MAX - 1, 1 << 63];
     plain.extend((0..64).flat_map(|j| [1 << j, u64::MAX << j, u64::MAX >> j]));
     plain.extend((0..2_000).map(|_| random.word() >> (random.word() % 64)));
     for word in plain {
         let calls = [Call::WordCountOnes(word), Call::WordLeadingZeros(word), Call::WordTrailingZeros(word), Call::LastPositiveBitAndUnset(word)];
         for call in calls {
-            judge.check(&one(call, none.clone()))?;
+            judge.check(&one(call, Lent::EMPTY))?;
         }
     }
     for r in (0..=70).chain([usize::MAX]) {
-        judge.check(&one(Call::LowMask(r), none.clone()))?;
+        judge.check(&one(Call::LowMask(r), Lent::EMPTY))?;
     }
     let ends: Vec<usize> =
         vec![0, 1, 62, 63, 64, 65, 100, 127, 128, 129, 192, 65_535, 65_536, usize::MAX - 64, usize::MAX - 63, usize::MAX - 1, usize::MAX];
     for start in &ends {
         for end in &ends {
             let (start, end) = (*start, *end);
-            judge.check(&one(Call::Masks { start, end }, none.clone()))?;
+            judge.check(&one(Call::Masks { start, end }, Lent::EMPTY))?;
             for number in [0, 1, 2, 3, 1_022, 1_023, 1_024, usize::MAX / 64 - 1, usize::MAX / 64, usize::MAX / 64 + 1, usize::MAX] {
-                judge.check(&one(Call::RangeMask { start, end, word: number }, none.clone()))?;
-                judge.check(&one(Call::AskRange { start, end, length: number }, none.clone()))?;
+                judge.check(&one(Call::RangeMask { start, end, word: number }, Lent::EMPTY))?;
+                judge.check(&one(Call::AskRange { start, end, length: number }, Lent::EMPTY))?;
             }
         }
     }

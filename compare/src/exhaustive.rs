@@ -98,7 +98,7 @@ fn pair_records(judge: &mut Judge, a: &Lent, b: &Lent, from: usize) -> Result<()
     };
     for one in records(a.length) {
         for two in records(b.length) {
-            for walk in Walk::ALL.into_iter().filter(|walk| walk.of_two_sets()) {
+            for walk in Walk::OF_TWO_SETS {
                 for back in [false, true] {
                     let call = Call::Step { walk, back, one, two };
                     judge.check(&Case { call, a: lent(a, 2), b: lent(b, 3), out: Vec::new() })?;
@@ -117,11 +117,10 @@ fn mix(bits: usize, n: usize) -> Vec<bool> {
 /// Every mix of steps of `ones`, to one step past its end, and all of `zeroes`.
 fn ones(judge: &mut Judge, set: &Lent) -> Result<(), Difference> {
     let n = set.words.iter().map(|word| word.count_ones() as usize).sum::<usize>() + 2;
-    let empty = Lent { length: 0, words: Vec::new() };
     for bits in 0..1 << n {
-        judge.check(&WalkCase { walk: Walk::Ones, a: lent(set, 2), b: empty.clone(), back: mix(bits, n) })?;
+        judge.check(&WalkCase { walk: Walk::Ones, a: lent(set, 2), b: Lent::EMPTY, back: mix(bits, n) })?;
     }
-    judge.check(&WalkCase { walk: Walk::Zeroes, a: lent(set, 2), b: empty, back: vec![false; set.length + 2] })
+    judge.check(&WalkCase { walk: Walk::Zeroes, a: lent(set, 2), b: Lent::EMPTY, back: vec![false; set.length + 2] })
 }
 
 fn pair(judge: &mut Judge, a: &Lent, b: &Lent) -> Result<(), Difference> {

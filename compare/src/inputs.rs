@@ -29,12 +29,19 @@ pub fn set(length: usize, further: usize, is_in: impl Fn(usize) -> bool) -> Lent
 /// A set of random words.
 pub fn random_set(random: &mut Prng, length: usize, further: usize) -> Lent {
     let density = random.below(5);
-    let mut words: Vec<u64> = (0..words_of(length)).map(|_| random_word(random, density)).collect();
-    if length % 64 != 0 {
-        words[length / 64] &= (1 << (length % 64)) - 1;
+    let mut set = Lent { length, words: (0..words_of(length)).map(|_| random_word(random, density)).collect() };
+    trim(&mut set);
+    set.words.extend((0..further).map(|_| random.word()));
+    set
+}
+
+/// Clears the bits from the length up in the set's own words.
+pub fn trim(set: &mut Lent) {
+    if let Some(last) = set.words.get_mut(set.length / 64) {
+        if set.length % 64 != 0 {
+            *last &= (1 << (set.length % 64)) - 1;
+        }
     }
-    words.extend((0..further).map(|_| random.word()));
-    Lent { length, words }
 }
 
 /// Empty, sparse, half full, dense or full.
@@ -107,7 +114,7 @@ pub fn random_edit(random: &mut Prng, length: usize) -> Edit {
 
 /// A case of one set; the second and the third buffer are empty.
 pub fn one(call: Call, a: Lent) -> Case {
-    Case { call, a, b: Lent { length: 0, words: Vec::new() }, out: Vec::new() }
+    Case { call, a, b: Lent::EMPTY, out: Vec::new() }
 }
 
 /// The calls of one set that take no number.

@@ -17,8 +17,10 @@ pub trait Input: Clone {
 }
 
 /// All that can be seen of an answer: its numbers, and every lent word after it.
-pub trait Seen {
-    fn agrees(&self, other: &Self) -> bool;
+pub trait Seen: PartialEq {
+    fn agrees(&self, other: &Self) -> bool {
+        self == other
+    }
     fn show(&self) -> String;
 }
 
@@ -29,10 +31,6 @@ pub struct SeenCase {
 }
 
 impl Seen for SeenCase {
-    fn agrees(&self, other: &Self) -> bool {
-        self == other
-    }
-
     fn show(&self) -> String {
         let [a, b, out] = &self.buffers;
         format!("{:?}; words {}; other {}; out {}", self.outcome, show::words(a), show::words(b), show::words(out))
@@ -99,10 +97,6 @@ pub struct SeenHistory {
 }
 
 impl Seen for SeenHistory {
-    fn agrees(&self, other: &Self) -> bool {
-        self == other
-    }
-
     fn show(&self) -> String {
         let [a, b, out] = &self.buffers;
         format!("{:?}; words {}; other {}; answers {}", self.ran, show::words(a), show::words(b), show::numbers(out))
@@ -153,6 +147,11 @@ pub struct Judge {
 /// The pairs of up to four engines, by their places; the first and the last are two forms of the same one.
 const PAIRS: [(usize, usize); 5] = [(0, 1), (0, 2), (1, 2), (1, 3), (2, 3)];
 
+/// The pairs of which both have answered: the place in `PAIRS`, and the two answers.
+fn answered<S>(seen: &[Option<S>]) -> impl Iterator<Item = (usize, &S, &S)> {
+    PAIRS.iter().enumerate().filter_map(|(pair, (i, j))| Some((pair, seen.get(*i)?.as_ref()?, seen.get(*j)?.as_ref()?)))
+}
+
 impl Judge {
     pub fn new(engines: Vec<Box<dyn Engine>>) -> Self {
         Judge { engines, tally: Tally::default() }
@@ -171,15 +170,9 @@ impl Judge {
     /// What the first two that differ answered.
     fn differing<I: Input>(&self, input: &I) -> Option<String> {
         let seen = self.ask(input);
-        for (i, j) in PAIRS {
-            if let (Some(Some(x)), Some(Some(y))) = (seen.get(i), seen.get(j)) {
-                if !x.agrees(y) {
-                    let (one, two) = (self.engines[i].name(), self.engines[j].name());
-                    return Some(format!("  {one}: {}\n  {two}: {}", x.show(), y.show()));
-                }
-            }
-        }
-        None
+        let (pair, x, y) = answered(&seen).find(|(_, x, y)| !x.agrees(y))?;
+        let (one, two) = (self.engines[PAIRS[pair].0].name(), self.engines[PAIRS[pair].1].name());
+        Some(format!("  {one}: {}\n  {two}: {}", x.show(), y.show()))
     }
 
     /// Compares all engines on one input; a difference comes back with the smallest input found.
@@ -187,14 +180,12 @@ impl Judge {
         let seen = self.ask(input);
         let answers = input.answers();
         let mut compared = false;
-        for (k, (i, j)) in PAIRS.into_iter().enumerate() {
-            if let (Some(Some(x)), Some(Some(y))) = (seen.get(i), seen.get(j)) {
-                if !x.agrees(y) {
-                    return Err(self.reduced(input));
-                }
-                self.tally.of_pairs[k] += answers;
-                compared = true;
+        for (pair, x, y) in answered(&seen) {
+            if !x.agrees(y) {
+                return Err(self.reduced(input));
             }
+            self.tally.of_pairs[pair] += answers;
+            compared = true;
         }
         if compared {
             self.tally.answers += answers;

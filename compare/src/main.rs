@@ -11,6 +11,7 @@ mod archive;
 mod bench;
 #[cfg(feature = "archive")]
 mod bindings;
+mod by_name;
 mod cases;
 mod damaged;
 mod edges;
@@ -74,10 +75,7 @@ fn seed_of(word: &str) -> u64 {
 fn write_sample(file: &str) {
     let mut judge = Judge::new(engines());
     match sample::text(&mut judge) {
-        Err(Difference(text)) => {
-            println!("a difference, the smallest input found:\n{text}");
-            exit(1);
-        }
+        Err(difference) => stop(difference),
         Ok(text) => {
             if let Err(error) = std::fs::write(file, &text) {
                 eprintln!("{file}: {error}");
@@ -86,6 +84,11 @@ fn write_sample(file: &str) {
             println!("{file}: {} histories, {} answers, {} bytes", judge.tally.histories, judge.tally.answers, text.len());
         }
     }
+}
+
+fn stop(Difference(text): Difference) -> ! {
+    println!("a difference, the smallest input found:\n{text}");
+    exit(1)
 }
 
 fn engines() -> Vec<Box<dyn cases::Engine>> {
@@ -107,9 +110,8 @@ fn run(extent: &Extent, seed: u64) {
         println!("{pair}: {answers} answers");
     }
     println!("{} answers and {} histories compared, seed {seed}, {:.1} s", judge.tally.answers, judge.tally.histories, start.elapsed().as_secs_f64());
-    if let Err(Difference(text)) = result {
-        println!("a difference, the smallest input found:\n{text}");
-        exit(1);
+    if let Err(difference) = result {
+        stop(difference);
     }
     println!("no difference");
 }

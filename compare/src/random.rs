@@ -2,7 +2,7 @@
 
 use crate::cases::{Call, Case, Lent, Record, Walk, WalkCase};
 use crate::inputs::{
-    at_position, over_range, random_edit, random_length, random_number, random_range, random_set, to_length, words_of, HUGE, OF_TWO, PLAIN,
+    at_position, over_range, random_edit, random_length, random_number, random_range, random_set, to_length, trim, words_of, HUGE, OF_TWO, PLAIN,
 };
 use crate::judge::{Difference, Judge};
 use crate::prng::Prng;
@@ -51,13 +51,6 @@ fn whole(random: &mut Prng) -> Case {
     let room = (words_of(length.max(other)) + random.below(2)).saturating_sub(usize::from(random.once_in(8)));
     let out = (0..room).map(|_| random.word()).collect();
     Case { call, a, b, out }
-}
-
-/// Clears the bits from the length up in the set's own words.
-fn trim(set: &mut Lent) {
-    if set.length % 64 != 0 {
-        set.words[set.length / 64] &= (1 << (set.length % 64)) - 1;
-    }
 }
 
 fn random_call(random: &mut Prng, length: usize, other: usize) -> Call {

@@ -2,13 +2,13 @@
 //!
 //! It can be asked what it has a meaning for: sets that pass questions 1 to 3, new lengths that pass 6 and 7, walks from their start.
 
-use crate::cases::{Answer, Call, Case, Edit, Engine, History, Lent, Outcome, Ran, Walk, WalkCase, Walked, NONE};
+use crate::by_name::{ask_by_name, steps};
+use crate::cases::{accepted, Answer, Call, Case, Edit, Engine, History, Lent, Outcome, Ran, Walk, WalkCase, Walked, NONE};
+use crate::inputs::{words_of, MOST};
 use fixedbitset::{FixedBitSet, Ones};
 use std::cell::Cell;
 use std::cmp::Ordering;
 use std::panic::{self, AssertUnwindSafe};
-
-const MOST: usize = 65_536;
 
 pub struct Reference;
 
@@ -32,10 +32,6 @@ fn caught<T>(run: impl FnOnce() -> T) -> Option<T> {
     let result = panic::catch_unwind(AssertUnwindSafe(run)).ok();
     QUIET.set(false);
     result
-}
-
-fn words_of(length: usize) -> usize {
-    length.div_ceil(64)
 }
 
 /// Does a length with its words pass questions 1 to 3?
@@ -105,10 +101,6 @@ fn panic_of(edit: Edit) -> u64 {
     }
 }
 
-fn accepted(answer: Answer) -> Option<Outcome> {
-    Some(Outcome { number: 0, answer })
-}
-
 fn edit(edit: Edit, case: &mut Case) -> Option<Outcome> {
     let mut set = load(&case.a)?;
     let other = if edit.reads_other() { load(&case.b)? } else { FixedBitSet::new() };
@@ -134,7 +126,7 @@ fn fresh(n: usize, blocks: Option<&[u64]>, buffer: &mut [u64]) -> Option<Outcome
         Some(blocks) => FixedBitSet::with_capacity_and_blocks(n, blocks.iter().map(|word| *word as usize)),
     };
     store(&set, buffer);
-    accepted(Answer::Length(set.len()))
+    Some(accepted(Answer::Length(set.len())))
 }
 
 fn third(case: &mut Case, join: fn(&FixedBitSet, &FixedBitSet) -> FixedBitSet) -> Option<Outcome> {
@@ -143,54 +135,17 @@ fn third(case: &mut Case, join: fn(&FixedBitSet, &FixedBitSet) -> FixedBitSet) -
         return None;
     }
     store(&set, &mut case.out);
-    accepted(Answer::Length(set.len()))
+    Some(accepted(Answer::Length(set.len())))
 }
 
 /// An answer over a range; a panic is 5 with the answer of a refusal.
-fn ranged<T: Default>(run: impl FnOnce() -> T, answer: fn(T) -> Answer) -> Option<Outcome> {
-    let result = caught(run);
+fn ranged<T: Default>(ask: impl FnOnce() -> T, answer: fn(T) -> Answer) -> Outcome {
+    let result = caught(ask);
     let number = if result.is_some() { 0 } else { 5 };
-    Some(Outcome { number, answer: answer(result.unwrap_or_default()) })
+    Outcome { number, answer: answer(result.unwrap_or_default()) }
 }
 
-fn of_one(case: &Case) -> Option<Outcome> {
-    let set = load(&case.a)?;
-    match case.call {
-        Call::Len => accepted(Answer::Count(set.len())),
-        Call::IsEmpty => accepted(Answer::Yes(set.is_empty())),
-        Call::AsSlice => accepted(Answer::part(false, 0, set.as_slice().len())),
-        Call::Contains(p) => accepted(Answer::Yes(set.contains(p))),
-        Call::ContainsAllInRange(start, end) => ranged(|| set.contains_all_in_range(start..end), Answer::Yes),
-        Call::ContainsAnyInRange(start, end) => ranged(|| set.contains_any_in_range(start..end), Answer::Yes),
-        Call::IsFull => accepted(Answer::Yes(set.is_full())),
-        Call::IsClear => accepted(Answer::Yes(set.is_clear())),
-        Call::CountOnes(start, end) => ranged(|| set.count_ones(start..end), Answer::Count),
-        Call::CountZeroes(start, end) => ranged(|| set.count_zeroes(start..end), Answer::Count),
-        Call::Minimum => accepted(Answer::Found(set.minimum())),
-        Call::Maximum => accepted(Answer::Found(set.maximum())),
-        _ => None,
-    }
-}
-
-fn of_two(case: &Case) -> Option<Outcome> {
-    let (a, b) = (load(&case.a)?, load(&case.b)?);
-    accepted(match case.call {
-        Call::UnionCount => Answer::Count(a.union_count(&b)),
-        Call::IntersectionCount => Answer::Count(a.intersection_count(&b)),
-        Call::DifferenceCount => Answer::Count(a.difference_count(&b)),
-        Call::SymmetricDifferenceCount => Answer::Count(a.symmetric_difference_count(&b)),
-        Call::IsDisjoint => Answer::Yes(a.is_disjoint(&b)),
-        Call::IsSubset => Answer::Yes(a.is_subset(&b)),
-        Call::IsSuperset => Answer::Yes(a.is_superset(&b)),
-        Call::Eq => Answer::Yes(a == b),
-        Call::Cmp => Answer::Order(match a.cmp(&b) {
-            Ordering::Equal => 0,
-            Ordering::Less => 1,
-            Ordering::Greater => 2,
-        }),
-        _ => return None,
-    })
-}
+ask_by_name!(&FixedBitSet);
 
 /// One word of a set whose members are a range.
 fn range_word(start: usize, end: usize, word: usize) -> Option<Outcome> {
@@ -199,27 +154,7 @@ fn range_word(start: usize, end: usize, word: usize) -> Option<Outcome> {
     }
     let mut set = FixedBitSet::with_capacity(end.max(64 * (word + 1)));
     set.insert_range(start..end);
-    accepted(Answer::Word(set.as_slice()[word] as u64))
-}
-
-/// A walk's steps by the reference's own iterators.
-fn steps(mut iterator: impl DoubleEndedIterator<Item = usize>, back: &[bool]) -> Vec<Option<usize>> {
-    back.iter().map(|back| if *back { iterator.next_back() } else { iterator.next() }).collect()
-}
-
-fn walk_sets(walk: Walk, a: &FixedBitSet, b: &FixedBitSet, back: &[bool]) -> Option<Vec<Option<usize>>> {
-    match walk {
-        Walk::Ones => Some(steps(a.ones(), back)),
-        Walk::Zeroes if back.contains(&true) => None,
-        Walk::Zeroes => {
-            let mut iterator = a.zeroes();
-            Some(back.iter().map(|_| iterator.next()).collect())
-        }
-        Walk::Intersection => Some(steps(a.intersection(b), back)),
-        Walk::Difference => Some(steps(a.difference(b), back)),
-        Walk::Union => Some(steps(a.union(b), back)),
-        Walk::SymmetricDifference => Some(steps(a.symmetric_difference(b), back)),
-    }
+    Some(accepted(Answer::Word(set.as_slice()[word] as u64)))
 }
 
 /// The count that belongs to a walk of a history.
@@ -251,17 +186,17 @@ impl Engine for Reference {
             Call::LastPositiveBitAndUnset(word) => {
                 let mut rest = word as usize;
                 let position = Ones::last_positive_bit_and_unset(&mut rest);
-                accepted(Answer::LastBit { position, rest: rest as u64 })
+                Some(accepted(Answer::LastBit { position, rest: rest as u64 }))
             }
             Call::LowMask(r) => range_word(0, r.min(64), 0),
             Call::RangeMask { start, end, word } => range_word(start, end, word),
             Call::AskRange { start, end, length } if length <= MOST => {
                 let set = FixedBitSet::with_capacity(length);
                 let number = if caught(|| set.contains_any_in_range(start..end)).is_some() { 0 } else { 5 };
-                accepted(Answer::Word(number))
+                Some(accepted(Answer::Word(number)))
             }
-            call if call.reads_second() => of_two(case),
-            _ => of_one(case),
+            call if call.reads_second() => of_two(call, &load(&case.a)?, &load(&case.b)?),
+            call => of_one(call, &load(&case.a)?),
         }
     }
 
@@ -281,14 +216,13 @@ impl Engine for Reference {
         let mut a = FixedBitSet::with_capacity(history.a_bits);
         let mut b = FixedBitSet::with_capacity(history.b_bits);
         for five in history.calls.chunks_exact(5) {
-            let call = Edit::decode(five[1], five[2] as usize, five[3] as usize, five[4] != 0);
             let (set, other, size) = match five[0] {
                 0 => (&mut a, &b, a_size),
                 1 => (&mut b, &a, b_size),
                 _ => continue,
             };
             // 6 and 7 are not the reference's own, and a panic does nothing.
-            match call {
+            match Edit::of_five(five) {
                 Some(edit) if fits(length_after(edit, set.len(), other.len()), size) => make_edit(edit, set, other),
                 _ => None,
             };

@@ -1,7 +1,7 @@
 //! Answers of the unchanged Rust as a fixed list, for a program that replays it with no Rust at hand.
 
 use crate::cases::{Edit, Engine, History, Walk};
-use crate::inputs::{CALLERS, MOST};
+use crate::inputs::{words_of, CALLERS, MOST};
 use crate::judge::{Difference, Judge};
 use crate::prng::Prng;
 use crate::reference::Reference;
@@ -99,7 +99,7 @@ fn line(history: &History) -> String {
     numbers.extend(&history.steps);
     numbers.extend([expected.a_length as u64, expected.b_length as u64, expected.count as u64]);
     numbers.extend(&ran.out);
-    numbers.extend([checksum(&ran.a_words[..expected.a_length.div_ceil(64)]), checksum(&ran.b_words[..expected.b_length.div_ceil(64)])]);
+    numbers.extend([checksum(&ran.a_words[..words_of(expected.a_length)]), checksum(&ran.b_words[..words_of(expected.b_length)])]);
     let mut text = String::new();
     for (k, number) in numbers.iter().enumerate() {
         write!(text, "{}{number}", if k == 0 { "" } else { " " }).expect("a string takes every text");

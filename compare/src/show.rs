@@ -45,8 +45,7 @@ pub fn history(history: &History) -> String {
         words(&history.b_words)
     );
     for five in history.calls.chunks(5) {
-        let call = (five.len() == 5).then(|| Edit::decode(five[1], five[2] as usize, five[3] as usize, five[4] != 0)).flatten();
-        match (five[0], call) {
+        match (five[0], Edit::of_five(five)) {
             (0, Some(edit)) => text.push_str(&format!("  A: {edit:?}\n")),
             (1, Some(edit)) => text.push_str(&format!("  B: {edit:?}\n")),
             _ => text.push_str(&format!("  no call: {five:?}\n")),

@@ -1,6 +1,7 @@
 //! Smaller inputs, for the smallest that still shows a difference: shorter lengths first, then fewer calls and steps, then simpler words and numbers.
 
 use crate::cases::{Call, Case, Edit, History, Lent, Record, WalkCase};
+use crate::inputs::trim;
 
 /// Numbers below n, the boldest first.
 fn below(n: usize) -> Vec<usize> {
@@ -56,22 +57,25 @@ fn lents(set: &Lent) -> Vec<Lent> {
     smaller
 }
 
-/// Both sets shorter by the same: cut to one length, or without one word.
-fn both(a: &Lent, b: &Lent) -> Vec<(Lent, Lent)> {
+/// Both sets shorter by the same: cut to one length, or without one word; then one of them smaller.
+fn pairs(a: &Lent, b: &Lent) -> Vec<(Lent, Lent)> {
     let mut smaller: Vec<(Lent, Lent)> = below(a.length.max(b.length)).into_iter().map(|length| (cut(a, length), cut(b, length))).collect();
     for k in 0..a.words.len().min(b.words.len()).min(8) {
         smaller.extend(without_word(a, k).zip(without_word(b, k)));
     }
+    smaller.extend(lents(a).into_iter().map(|a| (a, b.clone())));
+    smaller.extend(lents(b).into_iter().map(|b| (a.clone(), b)));
     smaller
 }
 
 /// The set cut to a length, with no stray bit.
 fn cut(set: &Lent, length: usize) -> Lent {
-    let mut words = set.words.clone();
-    if length < set.length && length % 64 != 0 && length / 64 < words.len() {
-        words[length / 64] &= (1 << (length % 64)) - 1;
+    let mut smaller = set.clone();
+    if length < set.length {
+        smaller.length = length;
+        trim(&mut smaller);
     }
-    Lent { length: set.length.min(length), words }
+    smaller
 }
 
 fn without_word(set: &Lent, k: usize) -> Option<Lent> {
@@ -125,14 +129,8 @@ fn numbers(call: Call) -> Vec<usize> {
 
 pub fn case(case: &Case) -> Vec<Case> {
     let mut smaller = Vec::new();
-    for (a, b) in both(&case.a, &case.b) {
+    for (a, b) in pairs(&case.a, &case.b) {
         smaller.push(Case { a, b, ..case.clone() });
-    }
-    for a in lents(&case.a) {
-        smaller.push(Case { a, ..case.clone() });
-    }
-    for b in lents(&case.b) {
-        smaller.push(Case { b, ..case.clone() });
     }
     for out in simpler_words(&case.out) {
         smaller.push(Case { out, ..case.clone() });
@@ -157,14 +155,8 @@ pub fn case(case: &Case) -> Vec<Case> {
 
 pub fn walk(case: &WalkCase) -> Vec<WalkCase> {
     let mut smaller = Vec::new();
-    for (a, b) in both(&case.a, &case.b) {
+    for (a, b) in pairs(&case.a, &case.b) {
         smaller.push(WalkCase { a, b, ..case.clone() });
-    }
-    for a in lents(&case.a) {
-        smaller.push(WalkCase { a, ..case.clone() });
-    }
-    for b in lents(&case.b) {
-        smaller.push(WalkCase { b, ..case.clone() });
     }
     for back in shorter(&case.back, 1) {
         if !back.is_empty() {

@@ -2,11 +2,7 @@
 
 use super::members::{bit, has, read, word, words_of, write, Members};
 use super::{edits, questions, walks, words};
-use crate::cases::{Answer, Call, Case, Edit, Lent, Outcome, Record, Walk};
-
-fn accepted(answer: Answer) -> Outcome {
-    Outcome { number: 0, answer }
-}
+use crate::cases::{accepted, Answer, Call, Case, Edit, Lent, Outcome, Record, Walk};
 
 pub fn call(case: &mut Case) -> Outcome {
     match case.call {
