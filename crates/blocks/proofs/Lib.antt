@@ -1,4 +1,2 @@
 pub mod BlockLaws
 pub mod LoopLaws
-pub mod WordJoins
-pub mod BlockJoins

@@ -13,6 +13,7 @@ pub fn block(words: &[u64], k: usize) -> u64
 }
 
 // Each word k of first..end that the slice has becomes (word & keep) ^ flip: set, cleared, flipped or kept whole.
+// Asks nothing: for the calls of this library, which have asked.
 pub fn change_blocks(words: &mut [u64], first: usize, end: usize, keep: u64, flip: u64)
     ensures { λ r. ⌜ now (words .exit) ≡ swept first end (λ (k w : ℕ). bitXor (bitAnd w keep) flip) (now (words .entry)) ⌝ }
 {
@@ -24,7 +25,7 @@ pub fn change_blocks(words: &mut [u64], first: usize, end: usize, keep: u64, fli
     }
 }
 
-// The words first..end become those of the other slice.
+// The words first..end become those of the other slice. Asks nothing: for the calls of this library, which have asked.
 pub fn copy_blocks(words: &mut [u64], other: &[u64], first: usize, end: usize)
     ensures { λ r. ⌜ now (words .exit) ≡ swept first (min end (length (now (other .entry)))) (λ (k w : ℕ). getD (now (other .entry)) k 0) (now (words .entry)) ⌝ }
 {

@@ -9,7 +9,6 @@ use lib.Dec.{eqb, ltb, lit<}
 use borrow.Author.Tests.{lt-ltb}
 use lib.ListN.{length, getD, drop, length-drop}
 use lib.Seq.{getD-drop, drop-drop}
-use Rattle.word_bits.specs.Digits.{one}
 use Rattle.calls.specs.Calls.{Call, Insert, Remove, Put, Toggle, Set, CopyBit, InsertRange, RemoveRange, ToggleRange, SetRange, Clear, Grow, GrowAndInsert, UnionWith, IntersectWith, DifferenceWith, SymmetricDifferenceWith}
 use Rattle.calls.specs.History.{Called, OnA, OnB}
 use Rattle.calls.specs.Encoding.{decode, decodeOne, decodeAll, called, encode, encodeAll, named, namedAll, areWords}

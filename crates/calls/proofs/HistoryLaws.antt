@@ -1,11 +1,11 @@
 -- A list of calls, one after the other. Assumes nothing.
-use mathlib.Core.Path.{_≡_, refl, sym, ap, ap₂, _∙_}
+use mathlib.Core.Path.{_≡_, refl, sym}
 use mathlib.Core.List.{List, [], _∷_, _++_}
 use mathlib.Core.Option.{Option, none, some}
-use Prim.Native.Nat.{ℕ, _≤_, _<_, _^_}
+use Prim.Native.Nat.{ℕ, _<_, _^_}
 use native.Mathlib.Omega.{arith}
 use lib.ListN.{length, getD}
-use Rattle.sets.specs.Members.{Members, wordsOf, read, write, setOf}
+use Rattle.sets.specs.Members.{Members, read, write, setOf}
 use Rattle.sets.specs.Outcomes.{Outcome}
 use Rattle.sets.specs.declared.fixed_bit_set.FixedBitSet.{FixedBitSet}
 use Rattle.sets.proofs.QuestionLaws.{Valid, valid-yes, first-yes}
@@ -18,7 +18,7 @@ use Rattle.calls.specs.History.{State, Called, OnA, OnB, history}
 use Rattle.calls.specs.Encoding.{called}
 use Rattle.calls.specs.Rules.{ReplayOutcome, decodedRule, stored}
 use Rattle.calls.proofs.SoundLaws.{Sound, Kept, same-kept, sound-read, leaves-kept}
-use Rattle.calls.proofs.CallLaws.{Holds, call-holds}
+use Rattle.calls.proofs.CallLaws.{call-holds}
 
 -- ---- states
 

@@ -1,6 +1,6 @@
 -- The loop over a list of calls: what the calls that remain do to what is held equals what all of them do to the start. Assumes nothing.
-use mathlib.Core.Path.{_≡_, refl, sym, ap, _∙_}
-use mathlib.Core.List.{List, [], _++_}
+use mathlib.Core.Path.{_≡_, sym, ap, _∙_}
+use mathlib.Core.List.{List}
 use Prim.Native.Nat.{ℕ, _+_, _-_, _≤_, _<_, _^_}
 use native.Mathlib.Omega.{arith}
 use lib.ListN.{length, getD, drop}
@@ -9,7 +9,7 @@ use Rattle.sets.specs.declared.fixed_bit_set.FixedBitSet.{FixedBitSet}
 use Rattle.sets.proofs.WriteLaws.{write-fits}
 use Rattle.sets.specs.Questions.{bothQuestions}
 use Rattle.sets.proofs.QuestionLaws.{both-valid}
-use Rattle.calls.specs.History.{State, Called, history}
+use Rattle.calls.specs.History.{Called, history}
 use Rattle.calls.specs.Encoding.{decodeOne, decodeAll}
 use Rattle.calls.specs.Rules.{ReplayOutcome, stored}
 use Rattle.calls.proofs.EncodingLaws.{decode-at, decode-end}

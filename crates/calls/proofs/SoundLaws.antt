@@ -1,8 +1,8 @@
 -- What every call keeps: a set that questions 1 to 3 accept in its buffer, and is never shorter. Assumes nothing.
-use mathlib.Core.Path.{_≡_, refl, sym, ap, ap₂, _∙_}
-use mathlib.Core.Bool.{Bool, true, false, not, cond, xor, _&&_, _||_}
+use mathlib.Core.Path.{_≡_, refl, ap, ap₂, _∙_}
+use mathlib.Core.Bool.{Bool, true, false, cond, xor}
 use mathlib.Core.List.{List}
-use Prim.Native.Nat.{ℕ, zero, suc, _+_, _≤_, _<_, max}
+use Prim.Native.Nat.{ℕ, zero, suc, _+_, _≤_, max}
 use native.Mathlib.Nat.{le-refl}
 use native.Mathlib.Omega.{arith}
 use borrow.Author.Tests.{ne-eqb}
@@ -18,10 +18,10 @@ use Rattle.sets.specs.declared.fixed_bit_set.FixedBitSet.{FixedBitSet}
 use Rattle.sets.proofs.QuestionLaws.{Valid, position-yes, position-below, room, room-only}
 use Rattle.sets.proofs.ReadLaws.{read-clipped}
 use Rattle.sets.proofs.WriteLaws.{Clipped}
-use Rattle.edits.specs.Edits.{cleared, grown}
-use Rattle.blocks.specs.Operations.{joined}
-use Rattle.blocks.specs.declared.operation.Operation.{Operation}
-use Rattle.blocks.specs.declared.operation.Operation.the-variants.{Union, Intersection, Difference, SymmetricDifference}
+use Rattle.edits.specs.Edits.{grown}
+use Rattle.two_sets.specs.Operations.{joined}
+use Rattle.two_sets.specs.declared.operation.Operation.{Operation}
+use Rattle.two_sets.specs.declared.operation.Operation.the-variants.{Union, Intersection, Difference, SymmetricDifference}
 use Rattle.two_sets.specs.Combined.{combined}
 use Rattle.calls.specs.Calls.{Call, Insert, Remove, Put, Toggle, Set, CopyBit, InsertRange, RemoveRange, ToggleRange, SetRange, Clear, Grow, GrowAndInsert, UnionWith, IntersectWith, DifferenceWith, SymmetricDifferenceWith, refusal, done, leaves}
 

@@ -3,10 +3,10 @@ use crate::replayed::Replayed;
 use sets::FixedBitSet;
 use sets::check_both;
 ghost use mathlib.Core.Path.{_≡_};
-ghost use lib.ListN.{length, drop};
+ghost use lib.ListN.{length};
 ghost use Rattle.sets.specs.Members.{read};
 ghost use Rattle.sets.specs.Questions.{bothQuestions};
-ghost use Rattle.calls.specs.History.{State, history};
+ghost use Rattle.calls.specs.History.{history};
 ghost use Rattle.calls.specs.Encoding.{decodeAll, decodeOne};
 ghost use Rattle.calls.specs.Rules.{replayOutcome, replayRule, stored};
 
@@ -46,7 +46,7 @@ fn replay_one(
     Replayed { number: 0, a, b }
 }
 
-// The calls of the numbers from `at` on.
+// The calls of the numbers, one after the other, on sets that pass 1 to 3.
 fn replay_all(
     a: FixedBitSet,
     words: &mut [u64],

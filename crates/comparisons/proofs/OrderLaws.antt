@@ -3,7 +3,7 @@ use mathlib.Core.Path.{_≡_, refl, sym, ap, ap₂, _∙_}
 use mathlib.Core.Bool.{Bool, true, false, cond, xor}
 use mathlib.Core.List.{List}
 use mathlib.Core.Logic.{_⊎_, inl, inr}
-use Prim.Native.Nat.{ℕ, zero, suc, _+_, _-_, _*_, _^_, _≤_, _<_}
+use Prim.Native.Nat.{ℕ, zero, suc, _+_, _*_, _^_, _≤_, _<_}
 use native.Mathlib.Omega.{arith}
 use borrow.Author.Tests.{lt-ltb, le-ltb}
 use lib.Dec.{ltb, lit<}
@@ -16,10 +16,11 @@ use Rattle.sets.specs.declared.fixed_bit_set.FixedBitSet.{FixedBitSet}
 use Rattle.sets.proofs.QuestionLaws.{Valid, BothValid}
 use Rattle.sets.proofs.ReadLaws.{read-bit}
 use Rattle.sets.proofs.WordLaws.{bit-at, within-words}
-use Rattle.blocks.specs.Operations.{joinedWord}
-use Rattle.blocks.specs.declared.operation.Operation.the-variants.{SymmetricDifference}
-use Rattle.blocks.proofs.WordJoins.{joined-digit, joined-is}
-use Rattle.comparisons.proofs.SearchLaws.{FirstMasked, FirstJoin, first-symmetric}
+use Rattle.two_sets.specs.Operations.{joinedWord}
+use Rattle.two_sets.specs.declared.operation.Operation.the-variants.{SymmetricDifference}
+use Rattle.two_sets.proofs.BlockJoins.{Words}
+use Rattle.two_sets.proofs.WordJoins.{joined-digit, joined-is}
+use Rattle.comparisons.proofs.SearchLaws.{FirstMasked, FirstJoin, first-by}
 use Rattle.comparisons.specs.Orders.{orderOf, wordsOrder, order}
 
 -- ---- two numbers
@@ -86,16 +87,16 @@ no-difference x y e =
     go false = refl
 
 -- word k is that of its bits
-word-bits : (ws : List ℕ) → ((k : ℕ) → getD ws k 0 < 2 ^ 64) → (k : ℕ) → getD ws k 0 ≡ wordOf (bitOf ws) k
-word-bits ws fit k = word-is (bitOf ws) k (getD ws k 0) (fit k) (λ j l. sym (bit-at ws k j l))
+word-bits : (ws : List ℕ) → Words ws → (k : ℕ) → getD ws k 0 ≡ wordOf (bitOf ws) k
+word-bits ws fw k = word-is (bitOf ws) k (getD ws k 0) (fw .fits k) (λ j l. sym (bit-at ws k j l))
 
-module _ (ws vs : List ℕ) (fw : (k : ℕ) → getD ws k 0 < 2 ^ 64) (fv : (k : ℕ) → getD vs k 0 < 2 ^ 64) {end r : ℕ}
-    (lent : (end ≤ length ws) × (end ≤ length vs)) (found : FirstMasked (2 ^ 64 - 1) (2 ^ 64 - 1) 0 ws vs end r) where
+module _ {ws vs : List ℕ} (fw : Words ws) (fv : Words vs) (end r : ℕ)
+    (lent : (end ≤ length ws) × (end ≤ length vs)) (found : FirstMasked SymmetricDifference ws vs end r) where
   f : FirstJoin SymmetricDifference ws vs end r
-  f = first-symmetric ws vs fw fv lent found
+  f = first-by SymmetricDifference fw fv end r lent found
 
   alike : (k : ℕ) → k < r → wordOf (bitOf ws) k ≡ wordOf (bitOf vs) k
-  alike k h = sym (word-bits ws fw k) ∙ same-word (getD ws k 0) (getD vs k 0) (fw k) (fv k) (f .before k h) ∙ word-bits vs fv k
+  alike k h = sym (word-bits ws fw k) ∙ same-word (getD ws k 0) (getD vs k 0) (fw .fits k) (fv .fits k) (f .before k h) ∙ word-bits vs fv k
 
   pub none-differ : end ≤ r → 0 ≡ wordsOrder 0 end (bitOf ws) (bitOf vs)
   none-differ h = sym (order-none (bitOf ws) (bitOf vs) 0 end (λ k l. alike k (omega arith)))

@@ -3,7 +3,7 @@ use mathlib.Core.Path.{_≡_, sym, ap, ap₂, _∙_}
 use mathlib.Core.Bool.{Bool, true, false}
 use mathlib.Core.List.{List}
 use mathlib.Core.Logic.{_⊎_, inl, inr}
-use Prim.Native.Nat.{ℕ, _+_, _-_, _*_, _/_, _%_, _^_, _≤_, _<_, min}
+use Prim.Native.Nat.{ℕ, _+_, _*_, _/_, _%_, _≤_, _<_, min}
 use native.Mathlib.Nat.{div-add-mod'}
 use native.Mathlib.Omega.{arith}
 use lib.ListN.{length, getD}
@@ -18,10 +18,10 @@ use Rattle.sets.specs.Questions.{questions, bothQuestions}
 use Rattle.sets.specs.declared.fixed_bit_set.FixedBitSet.{FixedBitSet}
 use Rattle.sets.proofs.QuestionLaws.{valid, first-both, BothValid}
 use Rattle.sets.proofs.ReadLaws.{read-digit}
-use Rattle.blocks.specs.Operations.{joined, joinedWord, maskedJoin}
-use Rattle.blocks.specs.declared.operation.Operation.{Operation}
-use Rattle.blocks.specs.declared.operation.Operation.the-variants.{Intersection, Difference, SymmetricDifference}
-use Rattle.blocks.proofs.WordJoins.{joined-digit, joined-lt, intersection-word, difference-word, symmetric-difference-word}
+use Rattle.two_sets.specs.Operations.{joined, joinedWord, joinedBy}
+use Rattle.two_sets.specs.declared.operation.Operation.{Operation}
+use Rattle.two_sets.proofs.BlockJoins.{Words}
+use Rattle.two_sets.proofs.WordJoins.{joined-digit, joined-lt, word-by}
 use Rattle.comparisons.specs.Helpers.{common, FirstAt}
 
 -- ---- the searched words as joined words
@@ -38,23 +38,16 @@ abbrev pub FirstJoin : Operation → List ℕ → List ℕ → ℕ → ℕ → T
 FirstJoin op ws vs end r = FirstAt (λ k. joinedWord op (getD ws k 0) (getD vs k 0)) end r
 
 -- what `first_joined` gives: the same by masks, below the ends of both lists
-abbrev pub FirstMasked : ℕ → ℕ → ℕ → List ℕ → List ℕ → ℕ → ℕ → Type 0
-FirstMasked first second both ws vs end r =
-    FirstAt (λ k. maskedJoin first second both (getD ws k 0) (getD vs k 0)) (min end (min (length ws) (length vs))) r
+abbrev pub FirstMasked : Operation → List ℕ → List ℕ → ℕ → ℕ → Type 0
+FirstMasked op ws vs end r = FirstAt (λ k. joinedBy op (getD ws k 0) (getD vs k 0)) (min end (min (length ws) (length vs))) r
 
 all-lent : (end n m : ℕ) → (end ≤ n) × (end ≤ m) → min end (min n m) ≡ end
 all-lent end n m h = omega arith
 
-module _ (ws vs : List ℕ) (fw : (k : ℕ) → getD ws k 0 < 2 ^ 64) (fv : (k : ℕ) → getD vs k 0 < 2 ^ 64) {end r : ℕ}
-    (lent : (end ≤ length ws) × (end ≤ length vs)) where
-  pub first-intersection : FirstMasked 0 0 (2 ^ 64 - 1) ws vs end r → FirstJoin Intersection ws vs end r
-  first-intersection f = first-ext _ _ (λ k. intersection-word (getD ws k 0) (getD vs k 0) (fw k) (fv k)) (rw (all-lent end (length ws) (length vs) lent) at f)
-
-  pub first-difference : FirstMasked (2 ^ 64 - 1) 0 (2 ^ 64 - 1) ws vs end r → FirstJoin Difference ws vs end r
-  first-difference f = first-ext _ _ (λ k. difference-word (getD ws k 0) (getD vs k 0) (fw k) (fv k)) (rw (all-lent end (length ws) (length vs) lent) at f)
-
-  pub first-symmetric : FirstMasked (2 ^ 64 - 1) (2 ^ 64 - 1) 0 ws vs end r → FirstJoin SymmetricDifference ws vs end r
-  first-symmetric f = first-ext _ _ (λ k. symmetric-difference-word (getD ws k 0) (getD vs k 0) (fw k) (fv k)) (rw (all-lent end (length ws) (length vs) lent) at f)
+pub first-by : (op : Operation) {ws vs : List ℕ} → Words ws → Words vs → (end r : ℕ) → (end ≤ length ws) × (end ≤ length vs)
+    → FirstMasked op ws vs end r → FirstJoin op ws vs end r
+first-by op {ws} {vs} fw fv end r lent f =
+    first-ext _ _ (λ k. word-by op (getD ws k 0) (getD vs k 0) (fw .fits k) (fv .fits k)) (rw (all-lent end (length ws) (length vs) lent) at f)
 
 -- ---- positions
 
@@ -81,6 +74,11 @@ pub record Searched (op : Operation) (a : FixedBitSet) (ws : List ℕ) (b : Fixe
   pub sound : BothValid a ws b vs
   pub all-common : end ≡ common a b
   pub first : FirstJoin op ws vs end r
+
+pub searched : (op : Operation) {a : FixedBitSet} {ws : List ℕ} {b : FixedBitSet} {vs : List ℕ} (end r : ℕ) → (questions a ws ≡ 0) × (questions b vs ≡ 0)
+    → Words ws → Words vs → end ≡ common a b → FirstMasked op ws vs end r → Searched op a ws b vs end r
+searched op {a} {ws} {b} {vs} end r q fw fv e f =
+    record { sound = both-of a ws b vs q; all-common = e; first = first-by op fw fv end r (common-lent a ws b vs q e) f }
 
 -- position p of the join of two sets
 abbrev pub joinedAt : Operation → Members → Members → ℕ → Bool

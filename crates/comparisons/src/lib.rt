@@ -12,5 +12,3 @@ pub use orders::eq;
 pub use relations::is_disjoint;
 pub use relations::is_subset;
 pub use relations::is_superset;
-pub use search::common_blocks;
-pub use search::first_joined;

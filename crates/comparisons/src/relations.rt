@@ -11,7 +11,7 @@ ghost use Rattle.comparisons.specs.Relations.{disjoint, subset};
 ghost use Rattle.comparisons.specs.Rules.{isDisjointRule, isSubsetRule, isSupersetRule};
 
 // Whether no word that both sets have holds a common member.
-fn apart(a: FixedBitSet, words: &[u64], b: FixedBitSet, other: &[u64]) -> bool
+fn disjoint_by_words(a: FixedBitSet, words: &[u64], b: FixedBitSet, other: &[u64]) -> bool
     requires { ⌜ (questions a (now words) ≡ 0) × (questions b (now other) ≡ 0) ⌝ }
     ensures { λ r. ⌜ r ≡ disjoint (read (now (words .entry)) a) (read (now (other .entry)) b) ⌝ }
 {
@@ -20,7 +20,7 @@ fn apart(a: FixedBitSet, words: &[u64], b: FixedBitSet, other: &[u64]) -> bool
 }
 
 // Whether each member of the first set is in the second: word by word where both have words, and beyond them none.
-pub(crate) fn within(a: FixedBitSet, words: &[u64], b: FixedBitSet, other: &[u64]) -> bool
+fn subset_by_words(a: FixedBitSet, words: &[u64], b: FixedBitSet, other: &[u64]) -> bool
     requires { ⌜ (questions a (now words) ≡ 0) × (questions b (now other) ≡ 0) ⌝ }
     ensures { λ r. ⌜ r ≡ subset (read (now (words .entry)) a) (read (now (other .entry)) b) ⌝ }
 {
@@ -45,7 +45,7 @@ pub fn is_disjoint(a: FixedBitSet, words: &[u64], b: FixedBitSet, other: &[u64])
     }
     Told {
         number: 0,
-        yes: apart(a, words, b, other),
+        yes: disjoint_by_words(a, words, b, other),
     }
 }
 
@@ -59,7 +59,7 @@ pub fn is_subset(a: FixedBitSet, words: &[u64], b: FixedBitSet, other: &[u64]) -
     }
     Told {
         number: 0,
-        yes: within(a, words, b, other),
+        yes: subset_by_words(a, words, b, other),
     }
 }
 
@@ -73,6 +73,6 @@ pub fn is_superset(a: FixedBitSet, words: &[u64], b: FixedBitSet, other: &[u64])
     }
     Told {
         number: 0,
-        yes: within(b, other, a, words),
+        yes: subset_by_words(b, other, a, words),
     }
 }

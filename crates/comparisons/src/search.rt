@@ -4,11 +4,11 @@ use sets::blocks_of;
 ghost use mathlib.Core.Path.{_≡_};
 ghost use Prim.Native.Nat.{ℕ, min};
 ghost use lib.ListN.{length, getD};
-ghost use Rattle.blocks.specs.Operations.{maskedJoin};
+ghost use Rattle.two_sets.specs.Operations.{maskedJoin};
 ghost use Rattle.comparisons.specs.Helpers.{common, FirstAt};
 
 // How many words both sets have.
-pub fn common_blocks(a: FixedBitSet, b: FixedBitSet) -> usize
+pub(crate) fn common_blocks(a: FixedBitSet, b: FixedBitSet) -> usize
     ensures { λ r. ⌜ r ≡ common a b ⌝ }
 {
     lesser(blocks_of(a.length), blocks_of(b.length))
@@ -17,7 +17,7 @@ pub fn common_blocks(a: FixedBitSet, b: FixedBitSet) -> usize
 // The first word below `end` where the join of the two words is not 0: where there is none the end, or a slice's end if
 // that is less.
 // `first`, `second` and `both` are all ones or 0, as in `two_sets`: one loop serves every comparison.
-pub fn first_joined(
+pub(crate) fn first_joined(
     words: &[u64],
     other: &[u64],
     end: usize,

@@ -1,31 +1,24 @@
 -- The words after the change of a range: its first word, the whole words between, its last word. Assumes nothing.
-use mathlib.Core.Path.{_≡_, refl, sym, ap, ap₂, _∙_}
-use mathlib.Core.Bool.{Bool, true, false, cond}
+use mathlib.Core.Path.{_≡_, refl, sym, ap, _∙_}
+use mathlib.Core.Bool.{Bool, true, false}
 use mathlib.Core.List.{List}
 use mathlib.Core.Logic.{_⊎_, inl, inr}
-use Prim.Native.Nat.{ℕ, _+_, _-_, _*_, _/_, _^_, _≤_, _<_}
+use Prim.Native.Nat.{ℕ, _+_, _-_, _/_, _^_, _≤_, _<_}
 use native.Mathlib.Omega.{arith}
 use borrow.Author.Tests.{eqb-true, eqb-false}
 use lib.Dec.{eqb}
 use lib.ListN.{length, getD, set as setAt, length-set}
 use lib.Seq.{getD-set-same, getD-set-other}
-use Rattle.word_bits.specs.Digits.{digit}
-use Rattle.word_bits.proofs.Digits.{digit-word}
 use Rattle.word_bits.proofs.Order.{lt-or-le}
-use Rattle.masks.specs.Ranges.{covers, endBlock}
+use Rattle.masks.specs.Ranges.{endBlock}
 use Rattle.masks.specs.RangeMasks.{rangeMask}
 use Rattle.masks.proofs.MaskLaws.{mask-before, mask-beyond, mask-whole}
-use Rattle.masks.proofs.RangeLaws.{covers-below, covers-above, end-block-le}
-use Rattle.sets.proofs.RangeQuestionLaws.{Within}
+use Rattle.masks.proofs.RangeLaws.{covers-below, covers-above}
 use Rattle.blocks.specs.Sweeps.{swept}
-use Rattle.sets.specs.Members.{wordsOf, read, write, changed}
-use Rattle.sets.specs.declared.fixed_bit_set.FixedBitSet.{FixedBitSet}
 use Rattle.blocks.proofs.BlockLaws.{length-swept, swept-in, swept-out, swept-all}
-use Rattle.sets.proofs.QuestionLaws.{Valid}
-use Rattle.sets.proofs.ReadLaws.{changed-write}
-use Rattle.edits.specs.Changes.{effect, changedWord}
+use Rattle.edits.specs.Changes.{changedWord}
 use Rattle.edits.specs.declared.change.Change.{Change}
-use Rattle.edits.proofs.WordChanges.{changed-digit, changed-lt, no-mask}
+use Rattle.edits.proofs.WordChanges.{no-mask}
 
 -- each word changed under its own mask
 abbrev pub masked : Change → ℕ → ℕ → ℕ → ℕ → ℕ

@@ -1,6 +1,5 @@
 -- The words of a cleared set, and of one that grows. Assumes nothing.
-use mathlib.Core.Path.{_≡_, refl, sym, ap, _∙_}
-use mathlib.Core.Bool.{Bool, true, false}
+use mathlib.Core.Path.{_≡_, sym, ap, _∙_}
 use mathlib.Core.List.{List}
 use mathlib.Core.Logic.{_⊎_, inl, inr}
 use Prim.Native.Nat.{ℕ, _+_, _*_, _/_, _%_, _^_, _≤_, _<_, max}
@@ -16,9 +15,9 @@ use Rattle.sets.specs.declared.fixed_bit_set.FixedBitSet.{FixedBitSet}
 use Rattle.blocks.proofs.BlockLaws.{zeroed, zeroed-is, length-swept, swept-in, swept-out}
 use Rattle.sets.proofs.ZeroLaws.{zeroed-write, no-members}
 use Rattle.sets.proofs.QuestionLaws.{Valid, Room}
-use Rattle.sets.proofs.ReadLaws.{read-digit, read-above, read-clipped, write-valid}
-use Rattle.sets.proofs.WordLaws.{words-mono, words-hold}
-use Rattle.sets.proofs.WriteLaws.{Clipped, write-is, read-write, write-write, length-write}
+use Rattle.sets.proofs.ReadLaws.{read-digit, read-above, write-valid}
+use Rattle.sets.proofs.WordLaws.{words-hold}
+use Rattle.sets.proofs.WriteLaws.{Clipped, write-is, read-write, write-write}
 use Rattle.edits.specs.Changes.{changedWord}
 use Rattle.edits.specs.Edits.{cleared, grown, inserted}
 use Rattle.edits.specs.declared.change.Change.the-variants.{Insert}

@@ -7,14 +7,14 @@ ghost use Rattle.blocks.specs.Sweeps.{swept};
 ghost use Rattle.edits.specs.Changes.{effect, changedWord};
 
 // What happens to each bit that an edit names.
-pub enum Change {
+pub(crate) enum Change {
     Insert,
     Remove,
     Toggle,
 }
 
 // Insert for yes, Remove for no.
-pub fn assigning(enabled: bool) -> Change
+pub(crate) fn assigning(enabled: bool) -> Change
     ensures { λ r. ⌜ effect r ≡ (λ (was : Bool). enabled) ⌝ }
 {
     if enabled {
@@ -35,7 +35,7 @@ pub(crate) fn change_word(word: u64, mask: u64, change: Change) -> u64
 }
 
 // Word k, where the slice has it.
-pub fn change_block(words: &mut [u64], k: usize, mask: u64, change: Change)
+pub(crate) fn change_block(words: &mut [u64], k: usize, mask: u64, change: Change)
     ensures { λ r. ⌜ now (words .exit) ≡ setAt (now (words .entry)) k (changedWord change mask (getD (now (words .entry)) k 0)) ⌝ }
 {
     if k < words.len() {

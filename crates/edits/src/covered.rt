@@ -10,7 +10,7 @@ ghost use Rattle.blocks.specs.Sweeps.{swept};
 ghost use Rattle.edits.specs.Changes.{changedWord};
 
 // The first word that the range meets with its mask, the whole words between, and the last word with its mask.
-pub fn change_covered(words: &mut [u64], start: usize, end: usize, change: Change)
+pub(crate) fn change_covered(words: &mut [u64], start: usize, end: usize, change: Change)
     ensures { λ r. ⌜ now (words .exit) ≡ swept 0 (length (now (words .entry))) (λ (k w : ℕ). changedWord change (rangeMask start end k) w) (now (words .entry)) ⌝ }
 {
     let masks = Masks::new(start, end);

@@ -5,10 +5,6 @@ mod positions;
 mod ranges;
 mod whole_set;
 
-pub use change::Change;
-pub use change::assigning;
-pub use change::change_block;
-pub use covered::change_covered;
 pub use positions::Replaced;
 pub use positions::copy_bit;
 pub use positions::insert;

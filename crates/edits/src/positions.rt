@@ -31,31 +31,35 @@ fn change_position(set: FixedBitSet, words: &mut [u64], bit: usize, change: Chan
     Edited { number: 0, set }
 }
 
+// Makes the position a member. Asks 1 to 3, then 4.
 pub fn insert(set: FixedBitSet, words: &mut [u64], bit: usize) -> Edited
     ensures { λ r. ⌜ outcome r (now (words .exit)) ≡ insertRule set (now (words .entry)) bit ⌝ }
 {
     change_position(set, words, bit, Change::Insert)
 }
 
+// Makes the position no member. Asks 1 to 3, then 4.
 pub fn remove(set: FixedBitSet, words: &mut [u64], bit: usize) -> Edited
     ensures { λ r. ⌜ outcome r (now (words .exit)) ≡ removeRule set (now (words .entry)) bit ⌝ }
 {
     change_position(set, words, bit, Change::Remove)
 }
 
+// Flips the position. Asks 1 to 3, then 4.
 pub fn toggle(set: FixedBitSet, words: &mut [u64], bit: usize) -> Edited
     ensures { λ r. ⌜ outcome r (now (words .exit)) ≡ toggleRule set (now (words .entry)) bit ⌝ }
 {
     change_position(set, words, bit, Change::Toggle)
 }
 
+// Inserts the position for yes, removes it for no. Asks 1 to 3, then 4.
 pub fn set(set: FixedBitSet, words: &mut [u64], bit: usize, enabled: bool) -> Edited
     ensures { λ r. ⌜ outcome r (now (words .exit)) ≡ setRule set (now (words .entry)) bit enabled ⌝ }
 {
     change_position(set, words, bit, assigning(enabled))
 }
 
-// Gives `to` the state that `from` had. A `from` at or above the length counts as no.
+// Gives `to` the state that `from` had; a `from` at or above the length counts as no. Asks 1 to 3, then 4 of `to`.
 pub fn copy_bit(set: FixedBitSet, words: &mut [u64], from: usize, to: usize) -> Edited
     ensures { λ r. ⌜ outcome r (now (words .exit)) ≡ copyBitRule set (now (words .entry)) from to ⌝ }
 {
@@ -63,7 +67,7 @@ pub fn copy_bit(set: FixedBitSet, words: &mut [u64], from: usize, to: usize) -> 
     change_position(set, words, to, assigning(enabled))
 }
 
-// Inserts, and tells whether the position was a member.
+// Inserts the position, and tells whether it was a member. Asks 1 to 3, then 4.
 pub fn put(set: FixedBitSet, words: &mut [u64], bit: usize) -> Replaced
     ensures { λ r. ⌜ putOutcome r (now (words .exit)) ≡ putRule set (now (words .entry)) bit ⌝ }
 {

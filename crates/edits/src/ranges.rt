@@ -28,24 +28,28 @@ fn change_range(
     Edited { number: 0, set }
 }
 
+// Makes each position of the range a member. Asks 1 to 3, then 5.
 pub fn insert_range(set: FixedBitSet, words: &mut [u64], start: usize, end: usize) -> Edited
     ensures { λ r. ⌜ outcome r (now (words .exit)) ≡ insertRangeRule set (now (words .entry)) start end ⌝ }
 {
     change_range(set, words, start, end, Change::Insert)
 }
 
+// Makes no position of the range a member. Asks 1 to 3, then 5.
 pub fn remove_range(set: FixedBitSet, words: &mut [u64], start: usize, end: usize) -> Edited
     ensures { λ r. ⌜ outcome r (now (words .exit)) ≡ removeRangeRule set (now (words .entry)) start end ⌝ }
 {
     change_range(set, words, start, end, Change::Remove)
 }
 
+// Flips each position of the range. Asks 1 to 3, then 5.
 pub fn toggle_range(set: FixedBitSet, words: &mut [u64], start: usize, end: usize) -> Edited
     ensures { λ r. ⌜ outcome r (now (words .exit)) ≡ toggleRangeRule set (now (words .entry)) start end ⌝ }
 {
     change_range(set, words, start, end, Change::Toggle)
 }
 
+// Inserts the range for yes, removes it for no. Asks 1 to 3, then 5.
 pub fn set_range(
     set: FixedBitSet,
     words: &mut [u64],

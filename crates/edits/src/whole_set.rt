@@ -11,6 +11,7 @@ ghost use mathlib.Core.Path.{_≡_};
 ghost use Rattle.sets.specs.Outcomes.{outcome};
 ghost use Rattle.edits.specs.Rules.{clearRule, growRule, growAndInsertRule};
 
+// Ends every membership. Asks 1 to 3.
 pub fn clear(set: FixedBitSet, words: &mut [u64]) -> Edited
     ensures { λ r. ⌜ outcome r (now (words .exit)) ≡ clearRule set (now (words .entry)) ⌝ }
 {
@@ -22,7 +23,8 @@ pub fn clear(set: FixedBitSet, words: &mut [u64]) -> Edited
     Edited { number: 0, set }
 }
 
-// The words that the longer set takes in are overwritten, whatever the caller had there.
+// Makes the length the larger of the set's and `bits`. Asks 1 to 3, then 6 and 7 of that length. The words that the longer set takes in are overwritten,
+// whatever the caller had there.
 pub fn grow(set: FixedBitSet, words: &mut [u64], bits: usize) -> Edited
     ensures { λ r. ⌜ outcome r (now (words .exit)) ≡ growRule set (now (words .entry)) bits ⌝ }
 {
@@ -42,6 +44,7 @@ pub fn grow(set: FixedBitSet, words: &mut [u64], bits: usize) -> Edited
     }
 }
 
+// Grows to one above the position, and inserts it. Asks 1 to 3, then 6 and 7, and never 4.
 pub fn grow_and_insert(set: FixedBitSet, words: &mut [u64], bit: usize) -> Edited
     ensures { λ r. ⌜ outcome r (now (words .exit)) ≡ growAndInsertRule set (now (words .entry)) bit ⌝ }
 {

@@ -1,14 +1,12 @@
 -- A history and the walks after it, computed from the definitions: calls that make A = {1, 70}, L = 71, and B = {0, 1}, L = 2. Assumes nothing.
 use mathlib.Core.Path.{_≡_, refl}
-use mathlib.Core.List.{List, [], _∷_}
-use Prim.Native.Nat.{ℕ}
+use mathlib.Core.List.{[], _∷_}
 use Rattle.word_bits.specs.Counts.{zerosBelow}
 use Rattle.masks.specs.Ranges.{covers}
 use Rattle.sets.specs.Members.{wordsOf, changed}
 use Rattle.sets.specs.Outcomes.{given}
 use Rattle.sets.specs.Questions.{positionQuestion, newLengthQuestion, roomQuestion, rangeQuestion}
 use Rattle.edits.specs.Edits.{grown}
-use Rattle.two_sets.specs.Combined.{combined}
 use Rattle.sets.specs.declared.answers.Position.the-variants.{At, Nothing}
 use Rattle.two_set_counts.specs.Lists.{positions}
 use Rattle.parts.specs.Steps.{front}
@@ -17,7 +15,7 @@ use Rattle.calls.specs.Calls.{leaves}
 use Rattle.calls.specs.Encoding.{decodeAll}
 use Rattle.calls.specs.History.{State, history, freshSets}
 use Rattle.whole_walks.specs.Walks.{walkList, answers, answersFrom}
-use Rattle.whole_walks.specs.declared.walk.Walk.the-variants.{Ones, Union, SymmetricDifference}
+use Rattle.whole_walks.specs.declared.walk.Walk.the-variants.{Union, SymmetricDifference}
 
 -- on A insert 1, an insert of 65 that is refused, grow_and_insert 70; on B insert_range 0..2, a number that is no call
 made : State

@@ -1,15 +1,14 @@
 -- The third demand, of the calls that a run makes: each gets what the one before it stored. Assumes nothing.
 use mathlib.Core.Path.{_≡_, refl, sym, ap, ap₂, _∙_}
 use mathlib.Core.List.{List, [], _∷_, _++_, map}
-use Prim.Native.Nat.{ℕ, suc, _-_, _≤_, _<_, _^_}
+use Prim.Native.Nat.{ℕ, suc, _-_, _<_, _^_}
 use native.Mathlib.Omega.{arith}
-use borrow.Author.Tests.{ne-eqb, leb-true}
-use lib.Dec.{eqb}
-use lib.ListN.{length, take, drop, getD, length-map}
+use borrow.Author.Tests.{ne-eqb}
+use lib.ListN.{length, drop, getD, length-map}
 use lib.Seq.{take-at, drop-at}
-use Rattle.sets.specs.Members.{Members, wordsOf, empty, read, write, setOf}
+use Rattle.sets.specs.Members.{Members, empty, write, setOf}
 use Rattle.sets.specs.Outcomes.{Outcome, given}
-use Rattle.sets.specs.Questions.{first, questions, newQuestions, bothQuestions}
+use Rattle.sets.specs.Questions.{first, newQuestions, bothQuestions}
 use Rattle.sets.proofs.QuestionLaws.{first-both, first-yes, valid-yes}
 use Rattle.sets.proofs.ReadLaws.{write-valid}
 use Rattle.sets.proofs.WordLaws.{words-mono}
@@ -18,7 +17,7 @@ use Rattle.sets.specs.Rules.{withCapacityRule}
 use Rattle.sets.specs.declared.answers.Position.{Position}
 use Rattle.sets.specs.declared.answers.Position.the-variants.{At, Nothing}
 use Rattle.calls.specs.Encoding.{decodeAll}
-use Rattle.calls.specs.History.{history, freshSets}
+use Rattle.calls.specs.History.{freshSets}
 use Rattle.calls.specs.Rules.{ReplayOutcome, replayRule, stored}
 use Rattle.calls.proofs.SoundLaws.{Sound}
 use Rattle.calls.proofs.HistoryLaws.{Keeps}
@@ -26,7 +25,7 @@ use Rattle.whole_walks.specs.Walks.{walkList, answers}
 use Rattle.whole_walks.specs.Walked.{Walked}
 use Rattle.whole_walks.specs.Rules.{endOf, answerWord, answerOf, answersQuestion, WalkOutcome, walkRule}
 use Rattle.whole_walks.proofs.RecordLaws.{answers-below}
-use Rattle.history.specs.Runs.{Input, Output, questionsOf, stateOf}
+use Rattle.history.specs.Runs.{Input, questionsOf, stateOf}
 use Rattle.history.specs.ThirdDemand.{Accepted}
 use Rattle.history.proofs.DemandLaws.{empty-sound, kept, history-walked}
 

@@ -1,7 +1,6 @@
 -- The third demand: one statement about a list of calls on two fresh sets, a walk with any mix of front and back steps, and its count.
 use mathlib.Core.Path.{_≡_}
-use mathlib.Core.List.{List, map}
-use Prim.Native.Nat.{ℕ}
+use mathlib.Core.List.{map}
 use lib.ListN.{length, take, drop}
 use Rattle.sets.specs.Members.{write, setOf}
 use Rattle.whole_walks.specs.Rules.{endOf, answerOf}

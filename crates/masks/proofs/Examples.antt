@@ -1,7 +1,6 @@
 -- Ranges at their edges, computed from the definitions. Assumes nothing.
 use mathlib.Core.Path.{_≡_, refl}
-use mathlib.Core.List.{List, [], _∷_}
-use Prim.Native.Nat.{ℕ}
+use mathlib.Core.List.{[], _∷_}
 use Rattle.word_bits.specs.Digits.{wordOf, number}
 use Rattle.masks.specs.Ranges.{covers, endBlock}
 use Rattle.masks.specs.RangeMasks.{rangeMask, masksOf}

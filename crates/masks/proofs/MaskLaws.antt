@@ -1,6 +1,6 @@
 -- The mask of a word: its digits, and where it is 0 or all ones. Assumes nothing.
 use mathlib.Core.Path.{_≡_, sym, ap, ap₂, _∙_}
-use mathlib.Core.Bool.{Bool, true, false, not, _&&_, and-comm}
+use mathlib.Core.Bool.{false, not, _&&_, and-comm}
 use mathlib.Core.Logic.{_⊎_, inl, inr}
 use Prim.Native.Nat.{ℕ, _+_, _-_, _*_, _/_, _^_, _≤_, _<_}
 use native.Mathlib.Omega.{arith}
@@ -8,7 +8,6 @@ use borrow.Author.Tests.{lt-ltb, le-ltb, le-leb, lt-leb}
 use lib.Bits.{bitAnd, and-lt}
 use lib.Dec.{leb, ltb, lit<}
 use lib.Pow.{ones-sub-lt}
-use Rattle.word_bits.specs.Digits.{digit}
 use Rattle.word_bits.specs.LowMask.{lowMask}
 use Rattle.word_bits.proofs.Digits.{digit-of-zero, word-is}
 use Rattle.word_bits.proofs.LowMasks.{digit-low-mask, digit-high-mask, low-mask-lt}

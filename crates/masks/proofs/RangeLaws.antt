@@ -1,11 +1,11 @@
 -- What a range covers, and which words it meets. Assumes nothing.
-use mathlib.Core.Path.{_≡_, refl, sym, ap, ap₂, _∙_}
-use mathlib.Core.Bool.{Bool, true, false, cond, not, _&&_, and-false}
+use mathlib.Core.Path.{_≡_, sym, ap, ap₂, _∙_}
+use mathlib.Core.Bool.{Bool, true, false, cond, _&&_, and-false}
 use mathlib.Core.Logic.{_⊎_, inl, inr}
-use Prim.Native.Nat.{ℕ, _+_, _-_, _*_, _/_, _≤_, _<_}
+use Prim.Native.Nat.{ℕ, _+_, _-_, _/_, _≤_, _<_}
 use native.Mathlib.Nat.{not-le-of-lt}
 use native.Mathlib.Omega.{arith}
-use borrow.Author.Tests.{lt-ltb, le-ltb, le-leb, lt-leb, leb-true}
+use borrow.Author.Tests.{lt-ltb, le-ltb, le-leb, lt-leb}
 use lib.Dec.{leb, ltb}
 use Rattle.word_bits.proofs.Order.{lt-or-le}
 use Rattle.masks.specs.Ranges.{covers, endBlock}

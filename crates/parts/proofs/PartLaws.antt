@@ -1,36 +1,18 @@
 -- The next position of a part, by the first or the last word that has one. Assumes nothing.
-use mathlib.Core.Path.{_≡_, refl, sym, ap, ap₂, _∙_}
-use mathlib.Core.Bool.{Bool, true, false, cond, _&&_, and-true, and-false, false≢true}
-use mathlib.Core.Logic.{_⊎_, inl, inr}
-use Prim.Native.Nat.{ℕ, zero, suc, _+_, _-_, _*_, _/_, _%_, _^_, _≤_, _<_}
-use native.Mathlib.Nat.{div-add-mod', le-refl, add-sub-of-le}
+use mathlib.Core.Path.{_≡_, refl, ap, ap₂, _∙_}
+use mathlib.Core.Bool.{Bool, true, false, cond}
+use Prim.Native.Nat.{ℕ, zero, suc, _+_, _-_, _≤_, _<_}
+use native.Mathlib.Nat.{le-refl, add-sub-of-le}
 use native.Mathlib.Omega.{arith}
 use borrow.Author.Tests.{lt-ltb, le-ltb}
-use lib.Bits.{bitAnd, and-lt, and-le-l}
 use lib.Dec.{ltb}
-use Rattle.word_bits.specs.Digits.{digit}
 use Rattle.word_bits.specs.Counts.{zerosBelow, zerosAbove}
-use Rattle.word_bits.proofs.Digits.{digit-of-zero, digit-word, word-lt}
-use Rattle.word_bits.proofs.Ends.{below-at, below-none, below-lt, below-no, below-yes, above-at, above-none, above-lt, above-no, above-yes}
-use Rattle.word_bits.proofs.Operations.{digit-and}
-use Rattle.word_bits.proofs.Order.{lt-or-le}
-use Rattle.masks.specs.Ranges.{covers, endBlock}
-use Rattle.masks.specs.RangeMasks.{rangeMask}
-use Rattle.masks.proofs.RangeLaws.{covers-yes, covers-below, covers-above, end-block, end-block-empty}
+use Rattle.word_bits.proofs.Ends.{below-at, below-none, above-at, above-none}
 use Rattle.sets.specs.declared.answers.Position.the-variants.{At, Nothing}
-use Rattle.parts.specs.Selections.{row}
-use Rattle.parts.specs.Steps.{ahead, behind, front, back, step}
+use Rattle.parts.specs.Steps.{taken, ahead, behind, front, back, step}
 use Rattle.parts.specs.declared.records.End.{End}
 use Rattle.parts.specs.declared.records.End.the-variants.{Front, Back}
 use Rattle.sets.specs.declared.answers.Part.{Part}
-use Rattle.parts.specs.declared.records.Step.{Step}
-
-pub row-at : (f : ℕ → ℕ) (k j : ℕ) → j < 64 → row f (k * 64 + j) ≡ digit (f k) j
-unfolding row
-row-at f k j h =
-    let q : (k * 64 + j) / 64 ≡ k = omega arith in
-    let r : (k * 64 + j) % 64 ≡ j = omega arith in
-    ap₂ (λ (a b : ℕ). digit (f a) b) q r
 
 -- ---- a step by its position
 
@@ -39,14 +21,14 @@ module _ (has : ℕ → Bool) (part : Part) where
   unfolding front
   front-none zs =
       let z = below-none (part .high - part .low) (λ j. has (part .low + j)) (λ j l. zs (part .low + j) (omega arith) (omega arith)) in
-      ap (λ (t : Bool). cond t (record { at = At (part .low + ahead has part); part = record { low = part .low + ahead has part + 1; high = part .high } }) (record { at = Nothing; part = part }))
+      ap (λ (t : Bool). taken t (part .low + ahead has part) (record { low = part .low + ahead has part + 1; high = part .high }) part)
       (le-ltb (ahead has part) (part .high - part .low) (omega (arith, z)))
 
   pub back-none : ((p : ℕ) → part .low ≤ p → p < part .high → has p ≡ false) → back has part ≡ record { at = Nothing; part = part }
   unfolding back
   back-none zs =
       let z = above-none (part .high - part .low) (λ j. has (part .low + j)) (λ j l. zs (part .low + j) (omega arith) (omega arith)) in
-      ap (λ (t : Bool). cond t (record { at = At (part .high - suc (behind has part)); part = record { low = part .low; high = part .high - suc (behind has part) } }) (record { at = Nothing; part = part }))
+      ap (λ (t : Bool). taken t (part .high - suc (behind has part)) (record { low = part .low; high = part .high - suc (behind has part) }) part)
       (le-ltb (behind has part) (part .high - part .low) (omega (arith, z)))
 
   module _ (p : ℕ) (a : part .low ≤ p) (b : p < part .high) (y : has p ≡ true) where
@@ -58,7 +40,7 @@ module _ (has : ℕ → Bool) (part : Part) where
     front-at zs =
         let z = below-at (part .high - part .low) (λ j. has (part .low + j)) (p - part .low) (omega arith) at-low (λ j l. zs (part .low + j) (omega arith) (omega arith)) in
         let e : part .low + ahead has part ≡ p = omega (arith, z) in
-        ap (λ (t : Bool). cond t (record { at = At (part .low + ahead has part); part = record { low = part .low + ahead has part + 1; high = part .high } }) (record { at = Nothing; part = part }))
+        ap (λ (t : Bool). taken t (part .low + ahead has part) (record { low = part .low + ahead has part + 1; high = part .high }) part)
         (lt-ltb (ahead has part) (part .high - part .low) (omega (arith, z)))
         ∙ ap (λ (x : ℕ). record { at = At x; part = record { low = x + 1; high = part .high } }) e
 
@@ -67,7 +49,7 @@ module _ (has : ℕ → Bool) (part : Part) where
     back-at zs =
         let z = above-at (part .high - part .low) (λ j. has (part .low + j)) (p - part .low) (omega arith) at-low (λ j c d. zs (part .low + j) (omega arith) (omega arith)) in
         let e : part .high - suc (behind has part) ≡ p = omega (arith, z) in
-        ap (λ (t : Bool). cond t (record { at = At (part .high - suc (behind has part)); part = record { low = part .low; high = part .high - suc (behind has part) } }) (record { at = Nothing; part = part }))
+        ap (λ (t : Bool). taken t (part .high - suc (behind has part)) (record { low = part .low; high = part .high - suc (behind has part) }) part)
         (lt-ltb (behind has part) (part .high - part .low) (omega (arith, z)))
         ∙ ap (λ (x : ℕ). record { at = At x; part = record { low = part .low; high = x } }) e
 
@@ -89,13 +71,13 @@ module _ (f g : ℕ → Bool) (part : Part) (same : (p : ℕ) → part .low ≤ 
   front-ext : front f part ≡ front g part
   unfolding front
   front-ext =
-      ap (λ (z : ℕ). cond (ltb z (part .high - part .low)) (record { at = At (part .low + z); part = record { low = part .low + z + 1; high = part .high } }) (record { at = Nothing; part = part }))
+      ap (λ (z : ℕ). taken (ltb z (part .high - part .low)) (part .low + z) (record { low = part .low + z + 1; high = part .high }) part)
       (below-ext (part .high - part .low) (λ j. f (part .low + j)) (λ j. g (part .low + j)) (λ j l. same (part .low + j) (omega arith) (omega arith)))
 
   back-ext : back f part ≡ back g part
   unfolding back
   back-ext =
-      ap (λ (z : ℕ). cond (ltb z (part .high - part .low)) (record { at = At (part .high - suc z); part = record { low = part .low; high = part .high - suc z } }) (record { at = Nothing; part = part }))
+      ap (λ (z : ℕ). taken (ltb z (part .high - part .low)) (part .high - suc z) (record { low = part .low; high = part .high - suc z }) part)
       (above-ext (part .high - part .low) (λ j. f (part .low + j)) (λ j. g (part .low + j)) (λ j l. same (part .low + j) (omega arith) (omega arith)))
 
   pub step-ext : (end : End) → step end f part ≡ step end g part

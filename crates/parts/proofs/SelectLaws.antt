@@ -1,17 +1,16 @@
 -- Selected words, by their digits. Assumes nothing.
-use mathlib.Core.Path.{_≡_, refl, sym, ap, ap₂, _∙_}
+use mathlib.Core.Path.{_≡_, refl, ap, ap₂, _∙_}
 use mathlib.Core.Bool.{Bool, true, false, not, _&&_, _||_, xor}
 use mathlib.Core.List.{List}
 use Prim.Native.Nat.{ℕ, _-_, _/_, _%_, _^_, _<_}
 use native.Mathlib.Omega.{arith}
-use lib.Bits.{bitAnd, bitOr, bitXor, and-lt, or-lt, xor-lt}
-use lib.Dec.{lit<}
+use lib.Bits.{bitOr, bitXor, and-lt, or-lt, xor-lt}
 use lib.ListN.{getD}
-use Rattle.word_bits.specs.Digits.{digit}
+use Rattle.word_bits.specs.Digits.{digit, row}
 use Rattle.word_bits.proofs.Digits.{digit-of-zero}
-use Rattle.word_bits.proofs.Operations.{digit-and, digit-not, digit-or, digit-xor}
+use Rattle.word_bits.proofs.Operations.{digit-and, digit-full, digit-or, digit-xor}
 use Rattle.sets.specs.Members.{bitOf}
-use Rattle.parts.specs.Selections.{chosenMasks, maskedSelect, row, selected, selectedAt}
+use Rattle.parts.specs.Selections.{chosenMasks, maskedSelect, selected, selectedAt}
 use Rattle.parts.specs.declared.records.Selection.{Selection}
 use Rattle.parts.specs.declared.records.Selection.the-variants.{Ones, Zeroes, Intersection, Difference}
 
@@ -24,9 +23,6 @@ pub select-digit : (flip away all x y j : ℕ)
 select-digit flip away all x y j =
     digit-and (bitXor x flip) (bitOr (bitXor y away) all) j
     ∙ ap₂ _&&_ (digit-xor x flip j) (digit-or (bitXor y away) all j ∙ ap (λ (b : Bool). b || digit all j) (digit-xor y away j))
-
-digit-full : (j : ℕ) → j < 64 → digit (2 ^ 64 - 1) j ≡ true
-digit-full j h = digit-not 64 0 j (lit< tt) h ∙ ap not (digit-of-zero j)
 
 -- the masks of a selection select its bits
 pub chosen-digit : (s : Selection) (x y j : ℕ) → j < 64

@@ -1,14 +1,14 @@
 -- A step by the first or the last word that has a position of the part. Assumes nothing.
-use mathlib.Core.Path.{_≡_, refl, sym, ap, ap₂, _∙_}
-use mathlib.Core.Bool.{Bool, true, false, _&&_, and-true, and-false, false≢true}
+use mathlib.Core.Path.{_≡_, refl, sym, ap, _∙_}
+use mathlib.Core.Bool.{Bool, true, false, _&&_, and-true, false≢true}
 use mathlib.Core.Logic.{_⊎_, inl, inr}
 use Prim.Native.Nat.{ℕ, suc, _+_, _-_, _*_, _/_, _%_, _^_, _≤_, _<_}
 use native.Mathlib.Nat.{div-add-mod'}
 use native.Mathlib.Omega.{arith}
 use lib.Bits.{bitAnd, and-lt, and-zero-r}
-use Rattle.word_bits.specs.Digits.{digit}
+use Rattle.word_bits.specs.Digits.{digit, row}
 use Rattle.word_bits.specs.Counts.{zerosBelow, zerosAbove}
-use Rattle.word_bits.proofs.Digits.{digit-of-zero, digit-word, word-lt}
+use Rattle.word_bits.proofs.Digits.{digit-of-zero, digit-word, word-lt, row-at}
 use Rattle.word_bits.proofs.Ends.{below-lt, below-no, below-yes, above-lt, above-no, above-yes}
 use Rattle.word_bits.proofs.Operations.{digit-and}
 use Rattle.word_bits.proofs.Order.{lt-or-le}
@@ -17,10 +17,9 @@ use Rattle.masks.specs.RangeMasks.{rangeMask}
 use Rattle.masks.proofs.RangeLaws.{covers-yes, covers-below, covers-above, end-block, end-block-empty}
 use Rattle.masks.proofs.MaskLaws.{mask-before, mask-beyond}
 use Rattle.sets.specs.declared.answers.Position.the-variants.{At, Nothing}
-use Rattle.parts.specs.Selections.{row}
 use Rattle.parts.specs.Steps.{front, back}
 use Rattle.sets.specs.declared.answers.Part.{Part}
-use Rattle.parts.proofs.PartLaws.{row-at, front-none, front-at, back-none, back-at}
+use Rattle.parts.proofs.PartLaws.{front-none, front-at, back-none, back-at}
 
 covered : (s e p : ℕ) → covers s e p ≡ true → (s ≤ p) × (p < e)
 covered s e p y = go (lt-or-le p s) (lt-or-le p e)

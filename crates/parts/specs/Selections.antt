@@ -1,10 +1,9 @@
 -- Which positions of one set a part of a walk is, given another set.
 use mathlib.Core.Bool.{Bool, not, _&&_}
 use mathlib.Core.List.{List}
-use Prim.Native.Nat.{ℕ, _-_, _/_, _%_, _^_}
+use Prim.Native.Nat.{ℕ, _-_, _^_}
 use lib.Bits.{bitAnd, bitOr, bitXor}
 use lib.ListN.{getD}
-use Rattle.word_bits.specs.Digits.{digit}
 use Rattle.masks.specs.RangeMasks.{rangeMask}
 use Rattle.parts.specs.declared.records.Chosen.{Chosen}
 use Rattle.parts.specs.declared.records.Selection.{Selection}
@@ -34,7 +33,3 @@ selectedAt flip other all ws vs k = maskedSelect flip other all (getD ws k 0) (g
 -- those in low..high
 abbrev pub partWord : ℕ → ℕ → ℕ → List ℕ → List ℕ → ℕ → ℕ → ℕ → ℕ
 partWord flip other all ws vs low high k = bitAnd (selectedAt flip other all ws vs k) (rangeMask low high k)
-
--- the bits of the words f 0, f 1 and so on
-unfoldable pub row : (ℕ → ℕ) → ℕ → Bool
-row f p = digit (f (p / 64)) (p % 64)

@@ -11,8 +11,9 @@ ghost use mathlib.Core.Path.{_≡_};
 ghost use Prim.Native.Nat.{ℕ, _+_, _-_, _/_};
 ghost use lib.Dec.{eqb};
 ghost use Rattle.word_bits.specs.Counts.{zerosBelow, zerosAbove};
+ghost use Rattle.word_bits.specs.Digits.{row};
 ghost use Rattle.masks.specs.Ranges.{endBlock};
-ghost use Rattle.parts.specs.Selections.{partWord, row, selectedAt};
+ghost use Rattle.parts.specs.Selections.{partWord, selectedAt};
 ghost use Rattle.parts.specs.Steps.{front, back};
 
 // The selected positions of word k in low..high. `flip`, `away` and `all` are all ones or 0: the word flipped, the other word flipped, the other word left out.

@@ -1,12 +1,10 @@
 -- Members read from the words of a set that passes questions 1 to 3, and the words after a change. Assumes nothing.
-use mathlib.Core.Path.{_≡_, refl, sym, ap, ap₂, _∙_}
-use mathlib.Core.Bool.{Bool, true, false, cond, _&&_}
+use mathlib.Core.Path.{_≡_, refl, sym, ap, _∙_}
+use mathlib.Core.Bool.{Bool, false, cond, _&&_}
 use mathlib.Core.List.{List}
 use mathlib.Core.Logic.{_⊎_, inl, inr}
 use Prim.Native.Nat.{ℕ, _+_, _*_, _^_, _≤_, _<_}
-use native.Mathlib.Omega.{arith}
 use borrow.Author.Tests.{lt-ltb, le-ltb}
-use lib.Dec.{ltb}
 use lib.ListN.{length, getD}
 use Rattle.word_bits.specs.Digits.{digit}
 use Rattle.word_bits.proofs.Digits.{word-is}
@@ -14,7 +12,7 @@ use Rattle.word_bits.proofs.Order.{lt-or-le}
 use Rattle.sets.specs.Members.{Members, wordsOf, bitOf, read, write, setOf, changed}
 use Rattle.sets.specs.Outcomes.{Outcome}
 use Rattle.sets.specs.declared.fixed_bit_set.FixedBitSet.{FixedBitSet}
-use Rattle.sets.proofs.WordLaws.{bit-at, within-words, words-hold}
+use Rattle.sets.proofs.WordLaws.{bit-at, within-words}
 use Rattle.sets.proofs.WriteLaws.{Clipped, bit-write, length-write, write-is}
 use Rattle.sets.proofs.QuestionLaws.{Valid}
 

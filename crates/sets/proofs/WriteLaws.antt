@@ -1,7 +1,7 @@
 -- `read` and `write` between members and lent words. Assumes nothing.
 use mathlib.Core.Path.{_≡_, refl, sym, ap, ap₂, _∙_, fun-ext}
-use mathlib.Core.Bool.{Bool, true, false, cond, _&&_, and-false}
-use mathlib.Core.List.{List, [], _∷_, _++_}
+use mathlib.Core.Bool.{Bool, false, _&&_}
+use mathlib.Core.List.{List, _++_}
 use mathlib.Core.Logic.{_⊎_, inl, inr}
 use Prim.Native.Nat.{ℕ, zero, suc, _+_, _-_, _*_, _/_, _%_, _^_, _≤_, _<_}
 use native.Mathlib.Nat.{add-zero, add-suc, suc-add, zero-add, add-sub-of-le, le-of-suc-le-suc, not-suc-le-zero, div-add-mod'}
@@ -11,10 +11,9 @@ use lib.Dec.{ltb}
 use lib.ListN.{length, getD, drop, length-append, length-drop, List·getD-append}
 use lib.Seq.{ext-getD, getD-append-add, getD-drop}
 use Rattle.word_bits.specs.Digits.{digit, wordOf}
-use Rattle.word_bits.proofs.Digits.{digit-word, word-is, word-lt}
+use Rattle.word_bits.proofs.Digits.{digit-word, word-lt}
 use Rattle.word_bits.proofs.Order.{lt-or-le}
-use Rattle.sets.specs.Members.{Members, wordsOf, bitOf, read, write, wordsFrom, setOf, changed}
-use Rattle.sets.specs.declared.fixed_bit_set.FixedBitSet.{FixedBitSet}
+use Rattle.sets.specs.Members.{Members, wordsOf, bitOf, read, write, wordsFrom, setOf}
 use Rattle.sets.proofs.WordLaws.{word-of, bit-at}
 
 -- no position from the length up is a member

@@ -1,7 +1,7 @@
 -- What a set is: a length, a yes or no for each position, and the lent words that hold them.
 use mathlib.Core.Bool.{Bool, false, cond, _&&_}
 use mathlib.Core.List.{List, [], _∷_, _++_}
-use Prim.Native.Nat.{ℕ, zero, suc, _+_, _*_, _/_, _%_}
+use Prim.Native.Nat.{ℕ, zero, suc, _+_, _/_, _%_}
 use lib.Dec.{ltb}
 use lib.ListN.{getD, drop}
 use Rattle.word_bits.specs.Digits.{digit, wordOf}

@@ -1,7 +1,7 @@
 -- The questions before any work: each is 0 for yes, and its number for no. Question 9 is asked of the helper's word and stands with it, in word_bits.
 use mathlib.Core.Bool.{cond, _&&_}
 use mathlib.Core.List.{List}
-use Prim.Native.Nat.{ℕ, _*_, max}
+use Prim.Native.Nat.{ℕ, _*_}
 use lib.Dec.{eqb, leb, ltb}
 use lib.ListN.{length}
 use Rattle.word_bits.specs.Counts.{some}

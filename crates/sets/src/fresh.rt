@@ -14,7 +14,7 @@ ghost use Rattle.sets.specs.Members.{wordsOf, read, write, setOf, empty}
 ghost use Rattle.sets.specs.Outcomes.{outcome};
 ghost use Rattle.sets.specs.Rules.{withCapacityRule, withCapacityAndBlocksRule};
 
-// A fresh set of `bits` bits with no members.
+// A fresh set of `bits` bits with no members. Asks 6 and 7.
 pub fn with_capacity(bits: usize, words: &mut [u64]) -> Edited
     ensures { λ r. ⌜ outcome r (now (words .exit)) ≡ withCapacityRule bits (now (words .entry)) ⌝ }
 {
@@ -47,7 +47,7 @@ fn fill_from(bits: usize, blocks: &[u64], words: &mut [u64])
     }
 }
 
-// A fresh set of `bits` bits from blocks: missing ones are 0, further ones and the bits from `bits` up are dropped.
+// A fresh set of `bits` bits from blocks: missing ones are 0, further ones and the bits from `bits` up are dropped. Asks 6 and 7.
 pub fn with_capacity_and_blocks(bits: usize, blocks: &[u64], words: &mut [u64]) -> Edited
     ensures { λ r. ⌜ outcome r (now (words .exit)) ≡ withCapacityAndBlocksRule bits (now (blocks .entry)) (now (words .entry)) ⌝ }
 {

@@ -7,7 +7,7 @@ ghost use mathlib.Core.Path.{_≡_};
 ghost use Rattle.sets.specs.Questions.{questions};
 ghost use Rattle.sets.specs.Rules.{lenRule, isEmptyRule, slicePart, asSliceRule};
 
-// The length in bits.
+// The length in bits. Asks 1 to 3.
 pub fn len(set: FixedBitSet, words: &[u64]) -> Counted
     ensures { λ r. ⌜ r ≡ lenRule set (now (words .entry)) ⌝ }
 {
@@ -21,7 +21,7 @@ pub fn len(set: FixedBitSet, words: &[u64]) -> Counted
     }
 }
 
-// Whether the set has no bits, members or not.
+// Whether the set has no bits, members or not. Asks 1 to 3.
 pub fn is_empty(set: FixedBitSet, words: &[u64]) -> Told
     ensures { λ r. ⌜ r ≡ isEmptyRule set (now (words .entry)) ⌝ }
 {
@@ -35,7 +35,7 @@ pub fn is_empty(set: FixedBitSet, words: &[u64]) -> Told
     }
 }
 
-// The words of the set, as a part of the lent slice.
+// The words of the set, as a part of the lent slice: the empty part where 1 to 3 refuse.
 pub fn as_slice(set: FixedBitSet, words: &[u64]) -> &[u64]
     ensures { λ r. ⌜ slicePart r ≡ asSliceRule set (words .entry) ⌝ }
 {

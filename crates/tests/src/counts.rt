@@ -44,7 +44,7 @@ fn ones_of(words: &[u64], start: usize, end: usize) -> usize
     head + middle + word_bits::count_ones(words[last] & masks.last_mask)
 }
 
-// How many positions of the range are members.
+// How many positions of the range are members. Asks 1 to 3, then 5.
 pub fn count_ones(set: FixedBitSet, words: &[u64], start: usize, end: usize) -> Counted
     ensures { λ r. ⌜ r ≡ countOnesRule set (now (words .entry)) start end ⌝ }
 {
@@ -58,7 +58,7 @@ pub fn count_ones(set: FixedBitSet, words: &[u64], start: usize, end: usize) -> 
     }
 }
 
-// How many positions of the range are no members.
+// How many positions of the range are no members. Asks 1 to 3, then 5.
 pub fn count_zeroes(set: FixedBitSet, words: &[u64], start: usize, end: usize) -> Counted
     ensures { λ r. ⌜ r ≡ countZeroesRule set (now (words .entry)) start end ⌝ }
 {

@@ -31,7 +31,7 @@ fn above_last(words: &[u64], end: usize) -> usize
     }
 }
 
-// The least member: the lowest bit of the first word that is not 0.
+// The least member: the lowest bit of the first word that is not 0. Asks 1 to 3.
 pub fn minimum(set: FixedBitSet, words: &[u64]) -> Found
     ensures { λ r. ⌜ r ≡ minimumRule set (now (words .entry)) ⌝ }
 {
@@ -56,7 +56,7 @@ pub fn minimum(set: FixedBitSet, words: &[u64]) -> Found
     }
 }
 
-// The greatest member: the highest bit of the last word that is not 0.
+// The greatest member: the highest bit of the last word that is not 0. Asks 1 to 3.
 pub fn maximum(set: FixedBitSet, words: &[u64]) -> Found
     ensures { λ r. ⌜ r ≡ maximumRule set (now (words .entry)) ⌝ }
 {

@@ -14,4 +14,3 @@ pub use ranges::contains_all_in_range;
 pub use ranges::contains_any_in_range;
 pub use ranges::is_clear;
 pub use ranges::is_full;
-pub use scans::first_other;

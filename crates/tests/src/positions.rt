@@ -4,9 +4,8 @@ use sets::check;
 use sets::member;
 ghost use mathlib.Core.Path.{_≡_};
 ghost use Rattle.tests.specs.Rules.{containsRule};
-ghost use Rattle.sets.specs.Questions.{rangeQuestions};
 
-// Whether a position is a member.
+// Whether a position is a member: no at or above the length. Asks 1 to 3.
 pub fn contains(set: FixedBitSet, words: &[u64], bit: usize) -> Told
     ensures { λ r. ⌜ r ≡ containsRule set (now (words .entry)) bit ⌝ }
 {

@@ -36,7 +36,7 @@ fn some_other(words: &[u64], start: usize, end: usize, skip: u64) -> bool
     (words[last] ^ skip) & masks.last_mask != 0
 }
 
-// Whether each position of the range is a member.
+// Whether each position of the range is a member. Asks 1 to 3, then 5.
 pub fn contains_all_in_range(set: FixedBitSet, words: &[u64], start: usize, end: usize) -> Told
     ensures { λ r. ⌜ r ≡ containsAllRule set (now (words .entry)) start end ⌝ }
 {
@@ -50,7 +50,7 @@ pub fn contains_all_in_range(set: FixedBitSet, words: &[u64], start: usize, end:
     }
 }
 
-// Whether some position of the range is a member.
+// Whether some position of the range is a member. Asks 1 to 3, then 5.
 pub fn contains_any_in_range(set: FixedBitSet, words: &[u64], start: usize, end: usize) -> Told
     ensures { λ r. ⌜ r ≡ containsAnyRule set (now (words .entry)) start end ⌝ }
 {
@@ -64,7 +64,7 @@ pub fn contains_any_in_range(set: FixedBitSet, words: &[u64], start: usize, end:
     }
 }
 
-// Whether each position of the set is a member.
+// Whether each position of the set is a member. Asks 1 to 3.
 pub fn is_full(set: FixedBitSet, words: &[u64]) -> Told
     ensures { λ r. ⌜ r ≡ isFullRule set (now (words .entry)) ⌝ }
 {
@@ -78,7 +78,7 @@ pub fn is_full(set: FixedBitSet, words: &[u64]) -> Told
     }
 }
 
-// Whether the set has no member.
+// Whether the set has no member. Asks 1 to 3.
 pub fn is_clear(set: FixedBitSet, words: &[u64]) -> Told
     ensures { λ r. ⌜ r ≡ isClearRule set (now (words .entry)) ⌝ }
 {

@@ -1,6 +1,6 @@
 -- The members of two joined sets: those in the words of both, and those beyond. Assumes nothing.
 use mathlib.Core.Path.{_≡_, refl, sym, ap, ap₂, _∙_}
-use mathlib.Core.Bool.{Bool, true, false, cond, xor}
+use mathlib.Core.Bool.{Bool, true, false, cond}
 use mathlib.Core.List.{List}
 use mathlib.Core.Logic.{_⊎_, inl, inr}
 use Prim.Native.Nat.{ℕ, _+_, _-_, _*_, _≤_, _<_, min, max}
@@ -17,19 +17,11 @@ use Rattle.sets.proofs.QuestionLaws.{valid-yes, both-valid}
 use Rattle.sets.proofs.ReadLaws.{read-bit, read-clipped}
 use Rattle.sets.proofs.WordLaws.{words-hold}
 use Rattle.sets.proofs.WriteLaws.{Clipped}
-use Rattle.blocks.specs.Operations.{joined}
-use Rattle.blocks.specs.declared.operation.Operation.{Operation}
-use Rattle.blocks.specs.declared.operation.Operation.the-variants.{Union, Intersection, Difference, SymmetricDifference}
+use Rattle.two_sets.specs.Operations.{joined}
+use Rattle.two_sets.specs.declared.operation.Operation.{Operation}
+use Rattle.two_sets.proofs.WordJoins.{joined-none}
 use Rattle.tests.proofs.RowLaws.{count-clip}
 use Rattle.two_set_counts.specs.Helpers.{jointOnes, onesFrom, onesBeyond}
-
--- two bits that are no members join to none
-joined-none : (op : Operation) → joined op false false ≡ false
-unfolding xor
-joined-none Union = refl
-joined-none Intersection = refl
-joined-none Difference = refl
-joined-none SymmetricDifference = refl
 
 -- a row taken or left out
 taken : (f : Bool → Bool) → f false ≡ false → (n : ℕ) (g : ℕ → Bool) → count n (λ j. f (g j)) ≡ cond (f true) (count n g) 0
@@ -52,15 +44,15 @@ nothing true g n e = rw e (unfold count in refl)
 nothing false g n e = refl
 
 module _ (op : Operation) (s o : Members) (cs : Clipped s) (co : Clipped o) where
-  row : ℕ → Bool
-  row p = joined op (s .has p) (o .has p)
+  joinedAt : ℕ → Bool
+  joinedAt p = joined op (s .has p) (o .has p)
 
   -- where one of the two ends at c
-  beyond : (c n : ℕ) → (s .len ≤ c) ⊎ (o .len ≤ c) → n ≡ max (s .len) (o .len) - c → count n (λ j. row (c + j)) ≡ onesBeyond op c s o
-  unfolding row
+  beyond : (c n : ℕ) → (s .len ≤ c) ⊎ (o .len ≤ c) → n ≡ max (s .len) (o .len) - c → count n (λ j. joinedAt (c + j)) ≡ onesBeyond op c s o
+  unfolding joinedAt
   beyond c n (inl l) e =
       let same : n ≡ o .len - c = omega arith in
-      count-ext n (λ j. row (c + j)) (λ j. joined op false (o .has (c + j)))
+      count-ext n (λ j. joinedAt (c + j)) (λ j. joined op false (o .has (c + j)))
       (λ j h. ap (λ (b : Bool). joined op b (o .has (c + j))) (cs .above (c + j) (omega arith)))
       ∙ taken (joined op false) (joined-none op) n (λ j. o .has (c + j))
       ∙ ap (λ (m : ℕ). cond (joined op false true) (count m (λ j. o .has (c + j))) 0) same
@@ -68,19 +60,19 @@ module _ (op : Operation) (s o : Members) (cs : Clipped s) (co : Clipped o) wher
       ∙ ap (λ (x : ℕ). x + cond (joined op false true) (onesFrom c o) 0) (sym (nothing (joined op true false) (λ j. s .has (c + j)) (s .len - c) (omega arith)))
   beyond c n (inr l) e =
       let same : n ≡ s .len - c = omega arith in
-      count-ext n (λ j. row (c + j)) (λ j. joined op (s .has (c + j)) false)
+      count-ext n (λ j. joinedAt (c + j)) (λ j. joined op (s .has (c + j)) false)
       (λ j h. ap (joined op (s .has (c + j))) (co .above (c + j) (omega arith)))
       ∙ taken (λ b. joined op b false) (joined-none op) n (λ j. s .has (c + j))
       ∙ ap (λ (m : ℕ). cond (joined op true false) (count m (λ j. s .has (c + j))) 0) same
       ∙ sym (add-zero (cond (joined op true false) (onesFrom c s) 0))
       ∙ ap (λ (x : ℕ). cond (joined op true false) (onesFrom c s) 0 + x) (sym (nothing (joined op false true) (λ j. o .has (c + j)) (o .len - c) (omega arith)))
 
-  two-parts : (c : ℕ) → (s .len ≤ c) ⊎ (o .len ≤ c) → count c row + onesBeyond op c s o ≡ jointOnes op s o
-  unfolding row
+  two-parts : (c : ℕ) → (s .len ≤ c) ⊎ (o .len ≤ c) → count c joinedAt + onesBeyond op c s o ≡ jointOnes op s o
+  unfolding joinedAt
   two-parts c side =
       let n : ℕ = max (s .len) (o .len) in
-      ap (λ (x : ℕ). count c row + x) (sym (beyond c (n - c) side refl)) ∙ sym (count-add c (n - c) row)
-      ∙ count-clip row n (λ p h. ap₂ (joined op) (cs .above p (omega arith)) (co .above p (omega arith)) ∙ joined-none op) (c + (n - c)) (omega arith)
+      ap (λ (x : ℕ). count c joinedAt + x) (sym (beyond c (n - c) side refl)) ∙ sym (count-add c (n - c) joinedAt)
+      ∙ count-clip joinedAt n (λ p h. ap₂ (joined op) (cs .above p (omega arith)) (co .above p (omega arith)) ∙ joined-none op) (c + (n - c)) (omega arith)
 
 -- ---- two sets that pass questions 1 to 3, and the c words that both have
 
@@ -100,7 +92,7 @@ module _ (op : Operation) (a : FixedBitSet) (ws : List ℕ) (b : FixedBitSet) (v
     side (inr l) = inr (omega (arith, words-hold (b .length)))
 
     pub common : Common
-    unfolding read row
+    unfolding read joinedAt
     common =
         let v = both-valid a ws b vs q in
         let n : ℕ = max (a .length) (b .length) in

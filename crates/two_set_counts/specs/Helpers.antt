@@ -1,20 +1,15 @@
 -- Definitions that only the helpers' contracts use.
-use mathlib.Core.Bool.{Bool, true, false, cond}
+use mathlib.Core.Bool.{true, false, cond}
 use mathlib.Core.List.{List}
-use Prim.Native.Nat.{ℕ, _+_, _-_, _/_, _%_, max}
+use Prim.Native.Nat.{ℕ, _+_, _-_, max}
 use Rattle.word_bits.specs.Counts.{count}
-use Rattle.word_bits.specs.Digits.{digit}
 use Rattle.sets.specs.Members.{Members, read}
 use Rattle.sets.specs.Outcomes.{counted}
 use Rattle.sets.specs.declared.fixed_bit_set.FixedBitSet.{FixedBitSet}
 use Rattle.sets.specs.declared.answers.Counted.{Counted}
-use Rattle.blocks.specs.Operations.{joined}
+use Rattle.two_sets.specs.Operations.{joined}
 use Rattle.sets.specs.Questions.{bothQuestions}
-use Rattle.blocks.specs.declared.operation.Operation.{Operation}
-
--- the bits of the words f 0, f 1 and so on
-unfoldable pub rowOf : (ℕ → ℕ) → ℕ → Bool
-rowOf f p = digit (f (p / 64)) (p % 64)
+use Rattle.two_sets.specs.declared.operation.Operation.{Operation}
 
 -- how many members two joined sets have
 abbrev pub jointOnes : Operation → Members → Members → ℕ

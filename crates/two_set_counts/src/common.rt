@@ -1,12 +1,12 @@
-use blocks::Operation;
+use two_sets::Operation;
 use word_bits::count_ones;
 ghost use mathlib.Core.Path.{_≡_};
 ghost use Prim.Native.Nat.{ℕ, _*_, _≤_};
 ghost use lib.ListN.{length, getD};
 ghost use Rattle.word_bits.specs.Counts.{count};
+ghost use Rattle.word_bits.specs.Digits.{row};
 ghost use Rattle.sets.specs.Members.{bitOf};
-ghost use Rattle.blocks.specs.Operations.{joined, maskedJoin};
-ghost use Rattle.two_set_counts.specs.Helpers.{rowOf};
+ghost use Rattle.two_sets.specs.Operations.{joined, maskedJoin};
 
 // How many bits of the words 0..end are set, once joined: `first`, `second` and `both` are all ones or 0,
 // so that one loop with no branch serves the four operations.
@@ -19,7 +19,7 @@ fn ones_joined(
     both: u64,
 ) -> usize
     requires { ⌜ (end ≤ length (now words)) × (end ≤ length (now other)) × (end ≤ 1024) ⌝ }
-    ensures { λ r. ⌜ r ≡ count (end * 64) (rowOf (λ (k : ℕ). maskedJoin first second both (getD (now (words .entry)) k 0) (getD (now (other .entry)) k 0))) ⌝ }
+    ensures { λ r. ⌜ r ≡ count (end * 64) (row (λ (k : ℕ). maskedJoin first second both (getD (now (words .entry)) k 0) (getD (now (other .entry)) k 0))) ⌝ }
 {
     let mut sum: usize = 0;
     let mut k = 0;

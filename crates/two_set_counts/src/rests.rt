@@ -1,7 +1,7 @@
-use blocks::Operation;
 use blocks::lesser;
 use sets::FixedBitSet;
 use tests::count_ones;
+use two_sets::Operation;
 ghost use mathlib.Core.Path.{_≡_};
 ghost use Rattle.sets.specs.Members.{read};
 ghost use Rattle.sets.specs.Questions.{questions};

@@ -1,2 +1,4 @@
+pub mod WordJoins
+pub mod BlockJoins
 pub mod MemberJoins
 pub mod SetJoins

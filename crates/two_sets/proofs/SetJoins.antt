@@ -1,13 +1,19 @@
--- The three parts of a join, in place and into a third buffer. Assumes nothing.
-use mathlib.Core.Path.{_≡_, refl, sym, ap, ap₂, _∙_}
+-- The three parts of a join in place, and a join into a third buffer. Assumes nothing.
+use mathlib.Core.Path.{_≡_, sym, ap, ap₂, _∙_}
+use mathlib.Core.Bool.{Bool, cond}
 use mathlib.Core.List.{List}
+use mathlib.Core.Logic.{_⊎_, inl, inr}
 use Prim.Native.Nat.{ℕ, _≤_, _<_, min, max}
 use native.Mathlib.Omega.{arith}
 use lib.ListN.{length, getD}
+use Rattle.word_bits.proofs.Order.{lt-or-le}
+use Rattle.masks.specs.Ranges.{covers}
+use Rattle.masks.proofs.RangeLaws.{covers-yes, covers-above}
 use Rattle.blocks.specs.Sweeps.{swept}
-use Rattle.blocks.specs.Operations.{joinedWord, padded}
-use Rattle.blocks.specs.declared.operation.Operation.{Operation}
-use Rattle.blocks.proofs.BlockJoins.{padded-in, padded-out, three-sweeps}
+use Rattle.blocks.proofs.BlockLaws.{length-swept, swept-in, swept-out, swept-is}
+use Rattle.two_sets.specs.Operations.{joinedWord, padded}
+use Rattle.two_sets.specs.declared.operation.Operation.{Operation}
+use Rattle.two_sets.proofs.BlockJoins.{padded-in, padded-out, three-sweeps}
 
 module _ (op : Operation) (blocks others total : ℕ) (ws vs : List ℕ) where
   -- word k of the result
@@ -37,13 +43,38 @@ module _ (op : Operation) (blocks others total : ℕ) (ws vs : List ℕ) where
         room (omega arith) (omega arith) (omega arith) le (omega arith) (λ i a b d. (omega arith, omega arith))
         (λ i a. both-have i (omega arith) (omega arith)) (λ i a b. first-has i b (omega arith)) (λ i a b. second-has i a (omega arith)))
 
-    pub joined-into : (out : List ℕ) → total ≤ length out → blocks ≤ length ws
-        → swept blocks (min total (length vs)) (λ k w. joinedWord op 0 (getD vs k 0))
-        (swept (min (min blocks others) total) (min (min blocks total) (length ws)) (λ k w. joinedWord op (getD ws k 0) 0)
-        (swept 0 (min (min blocks others) total) (λ k w. joinedWord op (getD ws k 0) (getD vs k 0)) out))
-        ≡ swept 0 total (λ k w. target k) out
-    joined-into out room ha =
-        three-sweeps (min (min blocks others) total) (min (min blocks total) (length ws)) blocks (min total (length vs)) total
-        (λ k w. joinedWord op (getD ws k 0) (getD vs k 0)) (λ k w. joinedWord op (getD ws k 0) 0) (λ k w. joinedWord op 0 (getD vs k 0)) target out
-        room (omega arith) (omega arith) (omega arith) (omega arith) (omega arith) (λ i a b d. (omega arith, omega arith))
-        (λ i a. both-have i (omega arith) (omega arith)) (λ i a b. first-has i (omega arith) (omega arith)) (λ i a b. second-has i a (omega arith))
+  -- the first words copied, then joined in place
+  pub joined-into : (out : List ℕ) → total ≤ length out → blocks ≤ length ws
+      → swept 0 total (λ k w. joinedWord op (padded (min blocks total) (swept 0 (min (min blocks total) (length ws)) (λ k w. getD ws k 0) out) k) (padded others vs k))
+      (swept 0 (min (min blocks total) (length ws)) (λ k w. getD ws k 0) out)
+      ≡ swept 0 total (λ k w. target k) out
+  joined-into out room ha =
+      swept-is 0 total (λ k w. target k) (swept 0 total f one) out
+      (length-swept 0 total f one ∙ len) (λ i h. go i h (lt-or-le i total) (lt-or-le i (min blocks total)))
+    where
+      copied : ℕ
+      copied = min (min blocks total) (length ws)
+
+      one : List ℕ
+      one = swept 0 copied (λ k w. getD ws k 0) out
+
+      f : ℕ → ℕ → ℕ
+      f k w = joinedWord op (padded (min blocks total) one k) (padded others vs k)
+
+      len : length one ≡ length out
+      len = length-swept 0 copied (λ k w. getD ws k 0) out
+
+      first : (i : ℕ) → i < total → (i < min blocks total) ⊎ (min blocks total ≤ i) → padded (min blocks total) one i ≡ padded blocks ws i
+      first i h (inl l) =
+          padded-in (min blocks total) one i l ∙ swept-in 0 copied (λ k w. getD ws k 0) out i (omega arith) (omega arith) (omega arith)
+          ∙ sym (padded-in blocks ws i (omega arith))
+      first i h (inr g) = padded-out (min blocks total) one i g ∙ sym (padded-out blocks ws i (omega arith))
+
+      go : (i : ℕ) → i < length out → (i < total) ⊎ (total ≤ i) → (i < min blocks total) ⊎ (min blocks total ≤ i)
+          → getD (swept 0 total f one) i 0 ≡ cond (covers 0 total i) (target i) (getD out i 0)
+      go i h (inl l) s =
+          swept-in 0 total f one i (rw len h) (omega arith) l ∙ ap (λ (x : ℕ). joinedWord op x (padded others vs i)) (first i l s)
+          ∙ sym (ap (λ (b : Bool). cond b (target i) (getD out i 0)) (covers-yes 0 total i (omega arith) l))
+      go i h (inr g) s =
+          swept-out 0 total f one i (covers-above 0 total i g) ∙ swept-out 0 copied (λ k w. getD ws k 0) out i (covers-above 0 copied i (omega arith))
+          ∙ sym (ap (λ (b : Bool). cond b (target i) (getD out i 0)) (covers-above 0 total i g))

@@ -1,10 +1,9 @@
 -- What the operations on two sets leave, position by position.
-use mathlib.Core.Bool.{Bool}
 use Prim.Native.Nat.{ℕ, min, max}
 use Rattle.sets.specs.Members.{Members}
-use Rattle.blocks.specs.Operations.{joined}
-use Rattle.blocks.specs.declared.operation.Operation.{Operation}
-use Rattle.blocks.specs.declared.operation.Operation.the-variants.{Union, Intersection, Difference, SymmetricDifference}
+use Rattle.two_sets.specs.Operations.{joined}
+use Rattle.two_sets.specs.declared.operation.Operation.{Operation}
+use Rattle.two_sets.specs.declared.operation.Operation.the-variants.{Union, Intersection, Difference, SymmetricDifference}
 
 -- n bits, each joined from those of two sets
 unfoldable pub combined : Operation → ℕ → Members → Members → Members

@@ -1,2 +1,3 @@
+pub mod Operations
 pub mod Combined
 pub mod Rules

@@ -1,7 +1,7 @@
-use blocks::Operation;
-use blocks::join_common;
-use blocks::join_first_alone;
-use blocks::join_second_alone;
+use crate::joins::join_common;
+use crate::joins::join_first_alone;
+use crate::joins::join_second_alone;
+use crate::operation::Operation;
 use blocks::larger;
 use blocks::lesser;
 use sets::Edited;
@@ -15,12 +15,13 @@ ghost use lib.ListN.{length};
 ghost use Rattle.blocks.specs.Sweeps.{swept};
 ghost use Rattle.sets.specs.Members.{read};
 ghost use Rattle.sets.specs.Outcomes.{outcome};
-ghost use Rattle.blocks.specs.Operations.{joinedWord, padded};
+ghost use Rattle.sets.specs.Questions.{joinQuestions};
+ghost use Rattle.two_sets.specs.Operations.{joinedWord, padded};
 ghost use Rattle.two_sets.specs.Combined.{growing, keeping};
 ghost use Rattle.two_sets.specs.Rules.{growingWith, keepingWith, unionWithRule, symmetricDifferenceWithRule, intersectWithRule, differenceWithRule};
 
 // The words of a result of `total` words, from the first set's `blocks` words and the second's `others`.
-fn join_in_place(
+pub(crate) fn join_in_place(
     words: &mut [u64],
     blocks: usize,
     other: &[u64],
@@ -35,6 +36,25 @@ fn join_in_place(
     join_common(words, other, common, operation);
     join_first_alone(words, common, blocks, operation);
     join_second_alone(words, other, blocks, total, operation);
+}
+
+// Questions 1 to 3 of both sets, then 7 of the result's length and the words lent for it.
+pub(crate) fn ask_join(
+    a: FixedBitSet,
+    words: &[u64],
+    b: FixedBitSet,
+    other: &[u64],
+    bits: usize,
+    out: &[u64],
+) -> u64
+    requires { ⌜ bits ≤ max (a .length) (b .length) ⌝ }
+    ensures { λ r. ⌜ r ≡ joinQuestions a (now (words .entry)) b (now (other .entry)) bits (length (now (out .entry))) ⌝ }
+{
+    let number = check_both(a, words, b, other);
+    if number != 0 {
+        return number;
+    }
+    ask_new(bits, out)
 }
 
 // The length is kept.
@@ -66,12 +86,8 @@ fn grow_with(
 ) -> Edited
     ensures { λ r. ⌜ outcome r (now (words .exit)) ≡ growingWith a (now (words .entry)) b (now (other .entry)) (growing operation (read (now (words .entry)) a) (read (now (other .entry)) b)) ⌝ }
 {
-    let number = check_both(a, words, b, other);
-    if number != 0 {
-        return Edited { number, set: a };
-    }
     let length = larger(a.length, b.length);
-    let number = ask_new(length, words);
+    let number = ask_join(a, words, b, other, length, words);
     if number != 0 {
         return Edited { number, set: a };
     }

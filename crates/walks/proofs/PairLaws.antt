@@ -1,5 +1,5 @@
 -- The part that is tried first, and the one after it. Assumes nothing.
-use mathlib.Core.Path.{_≡_, refl, ap, _∙_}
+use mathlib.Core.Path.{_≡_, ap}
 use Prim.Native.Nat.{ℕ}
 use Rattle.sets.specs.declared.answers.Position.{Position}
 use Rattle.sets.specs.declared.answers.Position.the-variants.{At, Nothing}

@@ -35,18 +35,21 @@ fn one_step(set: FixedBitSet, words: &[u64], part: Part, selection: Selection, e
     }
 }
 
+// The least member that the record has left. Asks 1 to 3, then 8.
 pub fn ones_next(set: FixedBitSet, words: &[u64], part: Part) -> Stepped
     ensures { λ r. ⌜ r ≡ onesNextRule set (now (words .entry)) part ⌝ }
 {
     one_step(set, words, part, Selection::Ones, End::Front)
 }
 
+// The greatest member that the record has left. Asks 1 to 3, then 8.
 pub fn ones_next_back(set: FixedBitSet, words: &[u64], part: Part) -> Stepped
     ensures { λ r. ⌜ r ≡ onesNextBackRule set (now (words .entry)) part ⌝ }
 {
     one_step(set, words, part, Selection::Ones, End::Back)
 }
 
+// The least non-member that the record has left. Asks 1 to 3, then 8.
 pub fn zeroes_next(set: FixedBitSet, words: &[u64], part: Part) -> Stepped
     ensures { λ r. ⌜ r ≡ zeroesNextRule set (now (words .entry)) part ⌝ }
 {

@@ -56,6 +56,7 @@ fn pair_step(
     }
 }
 
+// The least member of both sets that the record has left. Asks 1 to 3 of each set, then 8.
 pub fn intersection_next(
     a: FixedBitSet,
     words: &[u64],
@@ -76,6 +77,7 @@ pub fn intersection_next(
     )
 }
 
+// The greatest of them. Asks the same.
 pub fn intersection_next_back(
     a: FixedBitSet,
     words: &[u64],
@@ -88,6 +90,7 @@ pub fn intersection_next_back(
     pair_step(a, words, b, other, part, Selection::Intersection, End::Back)
 }
 
+// The least member of the first set, and not of the second, that the record has left. Asks 1 to 3 of each set, then 8.
 pub fn difference_next(
     a: FixedBitSet,
     words: &[u64],
@@ -100,6 +103,7 @@ pub fn difference_next(
     pair_step(a, words, b, other, part, Selection::Difference, End::Front)
 }
 
+// The greatest of them. Asks the same.
 pub fn difference_next_back(
     a: FixedBitSet,
     words: &[u64],

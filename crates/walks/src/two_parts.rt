@@ -136,6 +136,7 @@ fn back_pair(
     }
 }
 
+// The next member of the first set, or, where its part is over, of the second without the first. Asks 1 to 3 of each set, then 8 of each part.
 pub fn union_next(
     a: FixedBitSet,
     words: &[u64],
@@ -149,6 +150,7 @@ pub fn union_next(
     front_pair(a, words, b, other, one, two, Selection::Ones)
 }
 
+// The same from the other end: the second part is tried first. Asks the same.
 pub fn union_next_back(
     a: FixedBitSet,
     words: &[u64],
@@ -162,6 +164,7 @@ pub fn union_next_back(
     back_pair(a, words, b, other, one, two, Selection::Ones)
 }
 
+// The next member of the first set without the second, or, where that part is over, of the second without the first. Asks 1 to 3 of each set, then 8 of each part.
 pub fn symmetric_difference_next(
     a: FixedBitSet,
     words: &[u64],
@@ -175,6 +178,7 @@ pub fn symmetric_difference_next(
     front_pair(a, words, b, other, one, two, Selection::Difference)
 }
 
+// The same from the other end: the second part is tried first. Asks the same.
 pub fn symmetric_difference_next_back(
     a: FixedBitSet,
     words: &[u64],

@@ -2,12 +2,10 @@
 use mathlib.Core.Path.{_≡_}
 use mathlib.Core.Bool.{Bool, _&&_}
 use mathlib.Core.List.{List, [], _∷_}
-use mathlib.Core.Logic.{_⊎_, inl, inr}
 use Prim.Native.Nat.{ℕ, zero, suc, _≤_, _<_}
 use native.Mathlib.Nat.{le-refl, le-trans}
 use native.Mathlib.Omega.{arith}
 use lib.ListN.{getD}
-use Rattle.word_bits.proofs.Order.{lt-or-le}
 use Rattle.sets.specs.Members.{Members}
 use Rattle.sets.specs.declared.fixed_bit_set.FixedBitSet.{FixedBitSet}
 use Rattle.sets.specs.declared.answers.Position.{Position}
@@ -18,7 +16,7 @@ use Rattle.parts.specs.declared.records.End.the-variants.{Front, Back}
 use Rattle.sets.specs.declared.answers.Part.{Part}
 use Rattle.parts.specs.declared.records.Step.{Step}
 use Rattle.sets.specs.Questions.{partQuestion}
-use Rattle.sets.proofs.RangeQuestionLaws.{part-yes, part-inverted, part-within}
+use Rattle.sets.proofs.RangeQuestionLaws.{part-yes, part-within}
 use Rattle.walks.specs.Rules.{PairStep, orElse, without}
 use Rattle.whole_walks.specs.Walks.{onePart, walkStep, answersFrom}
 use Rattle.whole_walks.specs.declared.walk.Walk.{Walk}

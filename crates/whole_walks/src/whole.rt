@@ -31,7 +31,7 @@ fn answer_word(at: Position) -> u64
     }
 }
 
-// The answers of the steps from the first records on. Gives the number of the first step that is refused, and none is.
+// The answers of the steps from the first records on. No step is refused, so the number is 0.
 fn take_steps(
     a: FixedBitSet,
     words: &[u64],

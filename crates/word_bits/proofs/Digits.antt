@@ -1,14 +1,14 @@
 -- The digits of a number, and the number with given digits. Both go digit by digit, lowest first. Assumes nothing.
-use mathlib.Core.Path.{_≡_, refl, sym, ap, ap₂, _∙_, fun-ext, subst}
+use mathlib.Core.Path.{_≡_, refl, sym, ap, ap₂, _∙_, fun-ext}
 use mathlib.Core.Bool.{Bool, true, false}
 use Prim.Native.Nat.{ℕ, zero, suc, _+_, _*_, _/_, _%_, _^_, _≤_, _<_}
-use native.Mathlib.Nat.{div-one, zero-div, div-eq-of-lt, mod-eq-of-lt, mod-lt, pow-suc, mul-comm, mul-assoc, zero-lt-suc, not-suc-le-zero, lt-of-lt-of-le, le-of-suc-le-suc, mul-add-mod-self-right, mul-add-div-right}
+use native.Mathlib.Nat.{div-one, zero-div, div-eq-of-lt, mod-eq-of-lt, mod-lt, pow-suc, mul-assoc, zero-lt-suc, not-suc-le-zero, lt-of-lt-of-le, le-of-suc-le-suc}
 use native.Mathlib.Numerals.{add-one, one-add}
 use native.Mathlib.Omega.{arith}
-use lib.Arith.{digits-lt, digits-div, digits-mod, lt-one}
+use lib.Arith.{digits-lt, digits-div, digits-mod}
 use lib.Pow.{pow-mono, shr-shr, mod-pow-add}
 use lib.Dec.{eqb}
-use Rattle.word_bits.specs.Digits.{digit, one, number, wordOf}
+use Rattle.word_bits.specs.Digits.{digit, one, number, wordOf, row}
 
 -- ---- the lowest digit, and the digits above it
 
@@ -115,3 +115,12 @@ digit-word m k j h = digit-number 64 (λ i. m (k * 64 + i)) j h
 pub word-is : (m : ℕ → Bool) (k x : ℕ) → x < 2 ^ 64 → ((j : ℕ) → j < 64 → digit x j ≡ m (k * 64 + j)) → x ≡ wordOf m k
 unfolding wordOf
 word-is m k x h same = number-is 64 x (λ j. m (k * 64 + j)) h same
+
+-- ---- the bits of a row of words
+
+pub row-at : (f : ℕ → ℕ) (k j : ℕ) → j < 64 → row f (k * 64 + j) ≡ digit (f k) j
+unfolding row
+row-at f k j h =
+    let q : (k * 64 + j) / 64 ≡ k = omega arith in
+    let r : (k * 64 + j) % 64 ≡ j = omega arith in
+    ap₂ (λ (a b : ℕ). digit (f a) b) q r

@@ -1,7 +1,6 @@
 -- Low masks, and the counts and ends of a word, computed from the definitions. Assumes nothing.
 use mathlib.Core.Path.{_≡_, refl}
-use mathlib.Core.List.{List, [], _∷_, map}
-use Prim.Native.Nat.{ℕ}
+use mathlib.Core.List.{[], _∷_, map}
 use Rattle.word_bits.specs.Digits.{digit, number}
 use Rattle.word_bits.specs.Counts.{count, zerosAbove, zerosBelow}
 use Rattle.word_bits.specs.LowMask.{lowMask}

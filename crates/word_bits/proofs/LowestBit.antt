@@ -7,7 +7,7 @@ use native.Mathlib.Omega.{arith}
 use borrow.Author.Tests.{eq-eqb, ne-eqb}
 use lib.Arith.{lt-one}
 use lib.Bits.{bitAnd, and-step, and-self, and-lt}
-use lib.Dec.{eqb, eqb·zero-suc, eqb·suc-zero, eqb·suc-suc}
+use lib.Dec.{eqb, eqb·suc-zero, eqb·suc-suc}
 use lib.Pow.{pow-pos, ones-sub-lt}
 use Rattle.word_bits.specs.Digits.{digit, one, number}
 use Rattle.word_bits.specs.Counts.{zerosBelow}

@@ -1,14 +1,14 @@
 -- Counts over places, and the ones of a number as a count of its digits. Assumes nothing.
 use mathlib.Core.Path.{_≡_, refl, sym, ap, ap₂, _∙_, fun-ext}
 use mathlib.Core.Bool.{Bool, true, false}
-use Prim.Native.Nat.{ℕ, zero, suc, _+_, _*_, _/_, _%_, _^_, _≤_, _<_}
+use Prim.Native.Nat.{ℕ, zero, suc, _+_, _/_, _^_, _≤_, _<_, _*_}
 use native.Mathlib.Nat.{add-suc, pow-suc}
 use native.Mathlib.Omega.{arith}
 use lib.Count.{ones, ones-step}
 use lib.Arith.{lt-one}
-use Rattle.word_bits.specs.Digits.{digit, one}
+use Rattle.word_bits.specs.Digits.{digit, one, row}
 use Rattle.word_bits.specs.Counts.{count}
-use Rattle.word_bits.proofs.Digits.{digit-suc, low-bit}
+use Rattle.word_bits.proofs.Digits.{digit-suc, low-bit, row-at}
 
 -- by the first place
 pub count-low : (n : ℕ) (f : ℕ → Bool) → count (suc n) f ≡ one (f 0) + count n (λ j. f (suc j))
@@ -57,3 +57,16 @@ ones-count (suc n) x h =
     ones-step x
     ∙ ap₂ (λ (r q : ℕ). r + q) (low-bit x) (ones-count n (x / 2) (omega (arith, pow-suc 2 n)) ∙ ap (count n) (sym (fun-ext (digit-suc x))))
     ∙ sym (count-low n (digit x))
+
+-- ---- a row of words, counted word by word
+
+pub row-none : (f : ℕ → ℕ) → 0 ≡ count (0 * 64) (row f)
+unfolding count
+row-none f = refl
+
+-- one word more
+pub row-more : (f : ℕ → ℕ) (k : ℕ) → count (k * 64) (row f) + count 64 (digit (f k)) ≡ count ((k + 1) * 64) (row f)
+row-more f k =
+    let n : k * 64 + 64 ≡ (k + 1) * 64 = omega arith in
+    ap (λ (x : ℕ). count (k * 64) (row f) + x) (count-ext 64 (digit (f k)) (λ j. row f (k * 64 + j)) (λ j l. sym (row-at f k j l)))
+    ∙ sym (count-add (k * 64) 64 (row f)) ∙ ap (λ (m : ℕ). count m (row f)) n

@@ -5,9 +5,7 @@ use Prim.Native.Nat.{ℕ, zero, suc, _+_, _-_, _*_, _/_, _%_, _^_, _<_, min, max
 use native.Mathlib.Nat.{pow-suc, not-suc-le-zero, le-of-suc-le-suc}
 use native.Mathlib.Omega.{arith}
 use lib.Bits.{bitAnd, bitOr, bitXor, differ, and-step, or-step, xor-step}
-use lib.Count.{ones}
-use lib.Dec.{eqb, eqb·zero-suc, eqb·suc-zero, eqb·suc-suc}
-use lib.Pow.{pow-pos}
+use lib.Dec.{eqb, eqb·zero-suc, eqb·suc-zero, eqb·suc-suc, lit<}
 use Rattle.word_bits.specs.Digits.{digit, one}
 use Rattle.word_bits.proofs.Digits.{digit-low, digit-rest, digit-suc, digit-of-zero, low-bit}
 
@@ -71,6 +69,10 @@ digit-not (suc n) x zero h l = rw (not-step n x h) (digit-low ((2 ^ n - 1) - x /
 digit-not (suc n) x (suc j) h l =
     rw (not-step n x h, digit-rest ((2 ^ n - 1) - x / 2) (not (digit x 0)) j, digit-suc x j)
     (digit-not n (x / 2) j (omega (arith, pow-suc 2 n)) (le-of-suc-le-suc l))
+
+-- a word of all ones
+pub digit-full : (j : ℕ) → j < 64 → digit (2 ^ 64 - 1) j ≡ true
+digit-full j h = digit-not 64 0 j (lit< tt) h ∙ ap not (digit-of-zero j)
 
 -- ---- a power of two
 

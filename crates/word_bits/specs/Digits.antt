@@ -19,3 +19,7 @@ number (suc n) f = number n f + one (f n) * 2 ^ n
 -- word k of a set of positions: position p is bit p mod 64 of word p / 64
 unfoldable pub wordOf : (ℕ → Bool) → ℕ → ℕ
 wordOf m k = number 64 (λ j. m (k * 64 + j))
+
+-- the bits of the words f 0, f 1 and so on
+unfoldable pub row : (ℕ → ℕ) → ℕ → Bool
+row f p = digit (f (p / 64)) (p % 64)

@@ -1,6 +1,6 @@
 ghost use mathlib.Core.Bool.{true};
 ghost use mathlib.Core.Path.{_≡_};
-ghost use Rattle.word_lists.specs.Parts.{partOf};
+ghost use Rattle.word_lists.specs.Parts.{listPart, partOf};
 
 // Whether both have the same numbers in the same places.
 pub fn same(a: &[u64], b: &[u64]) -> bool
@@ -21,7 +21,7 @@ pub fn same(a: &[u64], b: &[u64]) -> bool
 
 // The numbers start..end, none where the list does not have them.
 pub fn part(numbers: &[u64], start: usize, end: usize) -> &[u64]
-    ensures { λ r. ⌜ now r ≡ partOf start end (now (numbers .entry)) ⌝ }
+    ensures { λ r. ⌜ listPart r ≡ partOf (numbers .entry) start end ⌝ }
 {
     if end < start {
         return &numbers[..0];

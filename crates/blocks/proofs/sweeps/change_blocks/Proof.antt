@@ -1,8 +1,8 @@
 -- `blocks::change_blocks` meets its contract. The loop has stored the words first..k. Assumes nothing.
 use mathlib.Core.Path.{ap}
-use Prim.Native.Nat.{ℕ, _≤_, _-_, min, max}
+use Prim.Native.Nat.{ℕ, _≤_, _-_, max}
 use lib.Bits.{bitAnd, bitXor}
-use lib.ListN.{length, getD}
+use lib.ListN.{getD}
 use Rattle.blocks.proofs.LoopLaws.{Stored, stored-none, stored-more, stored-rest, stored-swept}
 use borrow.Author.Needs.{needs}
 use native.Mathlib.Omega.{arith}

@@ -5,14 +5,13 @@ use borrow.Author.Needs.{needs}
 use Rattle.calls.proofs.one_call.put_only.Statement.{statement}
 use Rattle.calls.proofs.one_call.put_only.Tie as tie
 
-put-requires : tie.Need-put-requires
-put-requires c κs = search needs
-
-same-length : tie.Need-same-length
-same-length c = search needs
-
 returns : tie.Need-returns
 returns c = ap (λ (o : PutOutcome). o .edit) (c .before .before .before .put .ensures)
 
 pub put-only-spec : {M : Type 1} → statement M
-put-only-spec = tie.close (tie.spec put-requires same-length returns)
+put-only-spec =
+    tie.close
+    (tie.spec
+    (λ c κs. search needs)
+    (λ c. search needs)
+    returns)

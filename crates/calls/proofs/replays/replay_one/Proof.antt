@@ -1,7 +1,5 @@
 -- `calls::replays::replay_one` meets its contract. Assumes nothing.
-use mathlib.Core.Path.{_≡_, sym, ap, _∙_}
 use mathlib.Core.Bool.{not}
-use Prim.Native.Nat.{ℕ}
 use borrow.Author.Needs.{needs}
 use borrow.Author.Tests.{ne-eqb}
 use denote.Ref.{now}
@@ -12,30 +10,12 @@ use Rattle.calls.proofs.HistoryLaws.{no-call, on-a, on-b}
 use Rattle.calls.proofs.replays.replay_one.Statement.{statement}
 use Rattle.calls.proofs.replays.replay_one.Tie as tie
 
-make-call-requires : tie.Need-make-call-requires
-make-call-requires c κs = search needs
-
-same-length : tie.Need-same-length
-same-length c = search needs
-
-same-length-2 : tie.Need-same-length-2
-same-length-2 c = search needs
-
 returns : tie.Need-returns
 returns c =
     let a = c .before .before .before .before .before .before .before .before .before .args in
     let v = both-valid (a .a) (now (a .words)) (a .b) (now (a .other)) (c .before .before .before .before .before .before .before .before .before .pre) in
     rw (c .before .before .before .before .before .before .if1 .taken)
     (on-a (a .a) (now (a .words)) (a .b) (now (a .other)) (v .one) (v .two) (λ k. c .before .before .before .before .before .before .before .before .slice-known .given k .fits) (λ k. c .before .before .before .before .before .before .before .slice-known2 .given k .fits) (decode (a .code) (a .x) (a .y) (not (eqb (a .z) 0))) (c .before .before .before .make-call .ensures))
-
-make-call-requires-2 : tie.Need-make-call-requires-2
-make-call-requires-2 c κs = search needs
-
-same-length-3 : tie.Need-same-length-3
-same-length-3 c = search needs
-
-same-length-4 : tie.Need-same-length-4
-same-length-4 c = search needs
 
 returns-2 : tie.Need-returns-2
 returns-2 c =
@@ -55,12 +35,12 @@ pub replay-one-spec : {M : Type 1} → statement M
 replay-one-spec =
     tie.close
     (tie.spec
-    make-call-requires
-    same-length
-    same-length-2
+    (λ c κs. search needs)
+    (λ c. search needs)
+    (λ c. search needs)
     returns
-    make-call-requires-2
-    same-length-3
-    same-length-4
+    (λ c κs. search needs)
+    (λ c. search needs)
+    (λ c. search needs)
     returns-2
     returns-3)

@@ -14,15 +14,15 @@ check-both-requires c κs = search needs
 returns : tie.Need-returns
 returns c = given-no _ _ (c .before .check-both .ensures) (c .if1 .taken)
 
-apart-requires : tie.Need-apart-requires
-apart-requires c κs =
+disjoint-by-words-requires : tie.Need-disjoint-by-words-requires
+disjoint-by-words-requires c κs =
     let a = c .before .before .before .before .args in
     both-asked (a .a) (now (a .words)) (a .b) (now (a .other)) (c .before .check-both .ensures) (c .if1 .left)
 
 returns-2 : tie.Need-returns-2
 returns-2 c =
     given-yes _ (sym (c .before .if1 .left) ∙ c .before .before .check-both .ensures)
-    (ap (λ (x : Bool). record { number = 0; yes = x }) (c .apart .ensures))
+    (ap (λ (x : Bool). record { number = 0; yes = x }) (c .disjoint-by-words .ensures))
 
 pub is-disjoint-spec : {M : Type 1} → statement M
-is-disjoint-spec = tie.close (tie.spec check-both-requires returns apart-requires returns-2)
+is-disjoint-spec = tie.close (tie.spec check-both-requires returns disjoint-by-words-requires returns-2)

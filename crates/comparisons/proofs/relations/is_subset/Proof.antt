@@ -14,15 +14,15 @@ check-both-requires c κs = search needs
 returns : tie.Need-returns
 returns c = given-no _ _ (c .before .check-both .ensures) (c .if1 .taken)
 
-within-requires : tie.Need-within-requires
-within-requires c κs =
+subset-by-words-requires : tie.Need-subset-by-words-requires
+subset-by-words-requires c κs =
     let a = c .before .before .before .before .args in
     both-asked (a .a) (now (a .words)) (a .b) (now (a .other)) (c .before .check-both .ensures) (c .if1 .left)
 
 returns-2 : tie.Need-returns-2
 returns-2 c =
     given-yes _ (sym (c .before .if1 .left) ∙ c .before .before .check-both .ensures)
-    (ap (λ (x : Bool). record { number = 0; yes = x }) (c .within .ensures))
+    (ap (λ (x : Bool). record { number = 0; yes = x }) (c .subset-by-words .ensures))
 
 pub is-subset-spec : {M : Type 1} → statement M
-is-subset-spec = tie.close (tie.spec check-both-requires returns within-requires returns-2)
+is-subset-spec = tie.close (tie.spec check-both-requires returns subset-by-words-requires returns-2)

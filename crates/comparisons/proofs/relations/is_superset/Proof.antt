@@ -14,8 +14,8 @@ check-both-requires c κs = search needs
 returns : tie.Need-returns
 returns c = given-no _ _ (c .before .check-both .ensures) (c .if1 .taken)
 
-within-requires : tie.Need-within-requires
-within-requires c κs =
+subset-by-words-requires : tie.Need-subset-by-words-requires
+subset-by-words-requires c κs =
     let a = c .before .before .before .before .args in
     let q = both-asked (a .a) (now (a .words)) (a .b) (now (a .other)) (c .before .check-both .ensures) (c .if1 .left) in
     (q .1, q .0)
@@ -23,7 +23,7 @@ within-requires c κs =
 returns-2 : tie.Need-returns-2
 returns-2 c =
     given-yes _ (sym (c .before .if1 .left) ∙ c .before .before .check-both .ensures)
-    (ap (λ (x : Bool). record { number = 0; yes = x }) (c .within .ensures))
+    (ap (λ (x : Bool). record { number = 0; yes = x }) (c .subset-by-words .ensures))
 
 pub is-superset-spec : {M : Type 1} → statement M
-is-superset-spec = tie.close (tie.spec check-both-requires returns within-requires returns-2)
+is-superset-spec = tie.close (tie.spec check-both-requires returns subset-by-words-requires returns-2)

@@ -1,5 +1,5 @@
 -- `changes::assigning` meets its contract. Assumes nothing.
-use mathlib.Core.Path.{refl, sym, fun-ext}
+use mathlib.Core.Path.{sym, fun-ext}
 use Rattle.edits.proofs.change.assigning.Statement.{statement}
 use Rattle.edits.proofs.change.assigning.Tie as tie
 

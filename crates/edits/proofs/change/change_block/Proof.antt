@@ -1,5 +1,5 @@
 -- `changes::change_block` meets its contract. Assumes nothing.
-use mathlib.Core.Path.{sym, ap, _∙_}
+use mathlib.Core.Path.{sym, ap}
 use Prim.Native.Nat.{ℕ}
 use denote.Ref.{now}
 use lib.ListN.{set as setAt}
@@ -7,24 +7,6 @@ use lib.Seq.{set-out}
 use borrow.Author.Needs.{needs}
 use Rattle.edits.proofs.change.change_block.Statement.{statement}
 use Rattle.edits.proofs.change.change_block.Tie as tie
-
-mul-change-word : tie.Need-mul-change-word
-mul-change-word c = search needs
-
-slice-read-change-word : tie.Need-slice-read-change-word
-slice-read-change-word c = search needs
-
-change-word-requires : tie.Need-change-word-requires
-change-word-requires c κs = search needs
-
-mul-words : tie.Need-mul-words
-mul-words c = search needs
-
-slice-write-words : tie.Need-slice-write-words
-slice-write-words c = search needs
-
-same-length : tie.Need-same-length
-same-length c = search needs
 
 returns : tie.Need-returns
 returns c = ap (λ (x : ℕ). setAt (now (c .before .before .before .before .args .words)) (c .before .before .before .before .args .k) x) (c .change-word .ensures)
@@ -36,11 +18,11 @@ pub change-block-spec : {M : Type 1} → statement M
 change-block-spec =
     tie.close
     (tie.spec
-    mul-change-word
-    slice-read-change-word
-    change-word-requires
-    mul-words
-    slice-write-words
-    same-length
+    (λ c. search needs)
+    (λ c. search needs)
+    (λ c κs. search needs)
+    (λ c. search needs)
+    (λ c. search needs)
+    (λ c. search needs)
     returns
     returns-2)

@@ -11,41 +11,17 @@ use Rattle.edits.proofs.change.change_whole.Tie as tie
 enum-told : tie.Need-enum-told
 enum-told c = search needs
 
-change-blocks-requires : tie.Need-change-blocks-requires
-change-blocks-requires c κs = search needs
-
-enum-told-2 : tie.Need-enum-told-2
-enum-told-2 c = search needs
-
-change-blocks-requires-2 : tie.Need-change-blocks-requires-2
-change-blocks-requires-2 c κs = search needs
-
-enum-told-3 : tie.Need-enum-told-3
-enum-told-3 c = search needs
-
-change-blocks-requires-3 : tie.Need-change-blocks-requires-3
-change-blocks-requires-3 c κs = search needs
-
-same-length : tie.Need-same-length
-same-length c = search needs
-
 returns : tie.Need-returns
 returns c =
     let a = c .before .before .before .before .before .before .before .args in
     c .before .before .change-blocks .ensures
     ∙ swept-ext _ _ _ _ (now (a .words)) (λ k l. rw (c .before .before .before .before .enum-told .given .1) (whole-insert (getD (now (a .words)) k 0) (c .before .before .before .before .before .before .slice-known .given k .fits)))
 
-same-length-2 : tie.Need-same-length-2
-same-length-2 c = search needs
-
 returns-2 : tie.Need-returns-2
 returns-2 c =
     let a = c .before .before .before .before .before .before .before .args in
     c .before .before .change-blocks2 .ensures
     ∙ swept-ext _ _ _ _ (now (a .words)) (λ k l. rw (c .before .before .before .before .enum-told2 .given .1) (whole-remove (getD (now (a .words)) k 0) (c .before .before .before .before .before .before .slice-known .given k .fits)))
-
-same-length-3 : tie.Need-same-length-3
-same-length-3 c = search needs
 
 returns-3 : tie.Need-returns-3
 returns-3 c =
@@ -58,14 +34,14 @@ change-whole-spec =
     tie.close
     (tie.spec
     enum-told
-    change-blocks-requires
-    enum-told-2
-    change-blocks-requires-2
-    enum-told-3
-    change-blocks-requires-3
-    same-length
+    (λ c κs. search needs)
+    (λ c. search needs)
+    (λ c κs. search needs)
+    (λ c. search needs)
+    (λ c κs. search needs)
+    (λ c. search needs)
     returns
-    same-length-2
+    (λ c. search needs)
     returns-2
-    same-length-3
+    (λ c. search needs)
     returns-3)

@@ -7,12 +7,6 @@ use Rattle.edits.proofs.change.change_word.Tie as tie
 enum-told : tie.Need-enum-told
 enum-told c = search needs
 
-enum-told-2 : tie.Need-enum-told-2
-enum-told-2 c = search needs
-
-enum-told-3 : tie.Need-enum-told-3
-enum-told-3 c = search needs
-
 returns : tie.Need-returns
 returns c =
     let a = c .before .before .args in
@@ -30,4 +24,10 @@ returns-3 c =
 
 pub change-word-spec : {M : Type 1} → statement M
 change-word-spec =
-    tie.close (tie.spec enum-told enum-told-2 enum-told-3 returns returns-2 returns-3)
+    tie.close (tie.spec
+    enum-told
+    (λ c. search needs)
+    (λ c. search needs)
+    returns
+    returns-2
+    returns-3)

@@ -1,6 +1,5 @@
 -- `changes::change_covered` meets its contract. Assumes nothing.
-use mathlib.Core.Path.{_≡_, ap, _∙_}
-use Prim.Native.Nat.{_<_, _≤_, _+_, _-_, _/_}
+use Prim.Native.Nat.{_<_, _≤_, _-_, _/_}
 use denote.Ref.{now}
 use Rattle.masks.specs.Ranges.{endBlock}
 use Rattle.edits.proofs.BlockChanges.{no-word, one-word, many-words}
@@ -9,26 +8,11 @@ use native.Mathlib.Omega.{arith}
 use Rattle.edits.proofs.covered.change_covered.Statement.{statement}
 use Rattle.edits.proofs.covered.change_covered.Tie as tie
 
-new-requires : tie.Need-new-requires
-new-requires c κs = search needs
-
-change-block-requires : tie.Need-change-block-requires
-change-block-requires c κs = search needs
-
 sub-last : tie.Need-sub-last
 sub-last c = omega (arith, c .before .before .before .before .if1 .taken)
 
 add-change-whole : tie.Need-add-change-whole
 add-change-whole c = omega (arith, c .before .if2 .taken)
-
-change-whole-requires : tie.Need-change-whole-requires
-change-whole-requires c κs = search needs
-
-change-block-requires-2 : tie.Need-change-block-requires-2
-change-block-requires-2 c κs = search needs
-
-same-length : tie.Need-same-length
-same-length c = search needs
 
 returns : tie.Need-returns
 returns c =
@@ -36,9 +20,6 @@ returns c =
     let met : a .start / 64 < endBlock (a .start) (a .end) - 1 = rw (c .before .before .before .before .before .before .before .before .before .before .before .before .before .before .new .ensures) at (c .before .before .before .before .before .before .before .before .if2 .taken) in
     rw (c .before .before .change-block2 .ensures, c .before .before .before .before .before .before .change-whole .ensures, c .before .before .before .before .before .before .before .before .before .before .before .change-block .ensures, c .before .before .before .before .before .before .before .before .before .before .before .before .before .before .new .ensures)
     (many-words (a .change) (a .start) (a .end) (now (a .words)) (λ k. c .before .before .before .before .before .before .before .before .before .before .before .before .before .before .before .slice-known .given k .fits) met)
-
-same-length-2 : tie.Need-same-length-2
-same-length-2 c = search needs
 
 returns-2 : tie.Need-returns-2
 returns-2 c =
@@ -57,14 +38,14 @@ pub change-covered-spec : {M : Type 1} → statement M
 change-covered-spec =
     tie.close
     (tie.spec
-    new-requires
-    change-block-requires
+    (λ c κs. search needs)
+    (λ c κs. search needs)
     sub-last
     add-change-whole
-    change-whole-requires
-    change-block-requires-2
-    same-length
+    (λ c κs. search needs)
+    (λ c κs. search needs)
+    (λ c. search needs)
     returns
-    same-length-2
+    (λ c. search needs)
     returns-2
     returns-3)

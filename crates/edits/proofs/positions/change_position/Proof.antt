@@ -1,12 +1,11 @@
 -- `edits::change_position` meets its contract. Assumes nothing.
-use mathlib.Core.Path.{_≡_, sym, ap, _∙_}
+use mathlib.Core.Path.{sym, ap, _∙_}
 use Prim.Native.Nat.{ℕ, _/_, _%_}
 use native.Mathlib.Omega.{arith}
 use denote.Ref.{now}
 use lib.ListN.{getD, set as setAt}
 use borrow.Author.Needs.{needs}
 use Rattle.word_bits.proofs.SingleBit.{single-bit}
-use Rattle.sets.specs.Questions.{positionQuestions}
 use Rattle.sets.proofs.OutcomeLaws.{edited-no, given-yes}
 use Rattle.sets.proofs.QuestionLaws.{first-both, valid, position-below}
 use Rattle.sets.proofs.ReadLaws.{changed-outcome}

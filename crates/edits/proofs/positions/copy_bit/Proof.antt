@@ -10,18 +10,6 @@ use borrow.Author.Needs.{needs}
 use Rattle.edits.proofs.positions.copy_bit.Statement.{statement}
 use Rattle.edits.proofs.positions.copy_bit.Tie as tie
 
-member-requires : tie.Need-member-requires
-member-requires c κs = search needs
-
-assigning-requires : tie.Need-assigning-requires
-assigning-requires c κs = search needs
-
-change-position-requires : tie.Need-change-position-requires
-change-position-requires c κs = search needs
-
-same-length : tie.Need-same-length
-same-length c = search needs
-
 returns : tie.Need-returns
 returns c =
     let a = c .before .before .before .before .before .before .before .before .args in
@@ -33,4 +21,9 @@ returns c =
 pub copy-bit-spec : {M : Type 1} → statement M
 copy-bit-spec =
     tie.close
-    (tie.spec member-requires assigning-requires change-position-requires same-length returns)
+    (tie.spec
+    (λ c κs. search needs)
+    (λ c κs. search needs)
+    (λ c κs. search needs)
+    (λ c. search needs)
+    returns)

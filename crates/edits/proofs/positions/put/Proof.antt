@@ -7,22 +7,10 @@ use borrow.Author.Needs.{needs}
 use Rattle.edits.proofs.positions.put.Statement.{statement}
 use Rattle.edits.proofs.positions.put.Tie as tie
 
-member-requires : tie.Need-member-requires
-member-requires c κs = search needs
-
-change-position-requires : tie.Need-change-position-requires
-change-position-requires c κs = search needs
-
-same-length : tie.Need-same-length
-same-length c = search needs
-
 returns : tie.Need-returns
 returns c =
     ap₂ (λ (o : Outcome) (w : Bool). record { edit = o; was = w }) (c .before .before .before .before .change-position .ensures)
     (given-no (λ m. false) _ (given-number (λ (o : Outcome). o .number) _ _ _ (λ m. refl) refl (c .before .before .before .before .change-position .ensures)) (c .if1 .taken))
-
-same-length-2 : tie.Need-same-length-2
-same-length-2 c = search needs
 
 returns-2 : tie.Need-returns-2
 returns-2 c =
@@ -32,4 +20,10 @@ returns-2 c =
 pub put-spec : {M : Type 1} → statement M
 put-spec =
     tie.close
-    (tie.spec member-requires change-position-requires same-length returns same-length-2 returns-2)
+    (tie.spec
+    (λ c κs. search needs)
+    (λ c κs. search needs)
+    (λ c. search needs)
+    returns
+    (λ c. search needs)
+    returns-2)

@@ -9,15 +9,6 @@ use borrow.Author.Needs.{needs}
 use Rattle.edits.proofs.positions.set.Statement.{statement}
 use Rattle.edits.proofs.positions.set.Tie as tie
 
-assigning-requires : tie.Need-assigning-requires
-assigning-requires c κs = search needs
-
-change-position-requires : tie.Need-change-position-requires
-change-position-requires c κs = search needs
-
-same-length : tie.Need-same-length
-same-length c = search needs
-
 returns : tie.Need-returns
 returns c =
     let a = c .before .before .before .before .before .before .args in
@@ -26,4 +17,10 @@ returns c =
     ∙ ap (λ (f : Bool → Bool). atPosition (a .set) ws (a .bit) (changed (eqb (a .bit)) f (read ws (a .set)))) (c .before .before .before .assigning .ensures)
 
 pub set-spec : {M : Type 1} → statement M
-set-spec = tie.close (tie.spec assigning-requires change-position-requires same-length returns)
+set-spec =
+    tie.close
+    (tie.spec
+    (λ c κs. search needs)
+    (λ c κs. search needs)
+    (λ c. search needs)
+    returns)

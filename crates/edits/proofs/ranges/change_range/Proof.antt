@@ -1,5 +1,5 @@
 -- `edits::change_range` meets its contract. Assumes nothing.
-use mathlib.Core.Path.{_≡_, sym, _∙_}
+use mathlib.Core.Path.{sym, _∙_}
 use denote.Ref.{now}
 use borrow.Author.Needs.{needs}
 use Rattle.sets.proofs.OutcomeLaws.{edited-no, given-yes}

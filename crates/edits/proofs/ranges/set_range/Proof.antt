@@ -9,15 +9,6 @@ use borrow.Author.Needs.{needs}
 use Rattle.edits.proofs.ranges.set_range.Statement.{statement}
 use Rattle.edits.proofs.ranges.set_range.Tie as tie
 
-assigning-requires : tie.Need-assigning-requires
-assigning-requires c κs = search needs
-
-change-range-requires : tie.Need-change-range-requires
-change-range-requires c κs = search needs
-
-same-length : tie.Need-same-length
-same-length c = search needs
-
 returns : tie.Need-returns
 returns c =
     let a = c .before .before .before .before .before .before .args in
@@ -26,4 +17,10 @@ returns c =
     ∙ ap (λ (f : Bool → Bool). overRange (a .set) ws (a .start) (a .end) (changed (covers (a .start) (a .end)) f (read ws (a .set)))) (c .before .before .before .assigning .ensures)
 
 pub set-range-spec : {M : Type 1} → statement M
-set-range-spec = tie.close (tie.spec assigning-requires change-range-requires same-length returns)
+set-range-spec =
+    tie.close
+    (tie.spec
+    (λ c κs. search needs)
+    (λ c κs. search needs)
+    (λ c. search needs)
+    returns)

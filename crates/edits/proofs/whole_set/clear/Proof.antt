@@ -4,7 +4,7 @@ use Prim.Native.Nat.{ℕ}
 use denote.Ref.{now}
 use Rattle.blocks.specs.Sweeps.{swept}
 use Rattle.sets.specs.Questions.{questions}
-use Rattle.sets.proofs.OutcomeLaws.{given-no, given-yes}
+use Rattle.sets.proofs.OutcomeLaws.{given-yes, edited-no}
 use Rattle.sets.proofs.QuestionLaws.{valid}
 use Rattle.blocks.proofs.BlockLaws.{zeroed}
 use Rattle.sets.proofs.ReadLaws.{changed-outcome}
@@ -13,24 +13,9 @@ use borrow.Author.Needs.{needs}
 use Rattle.edits.proofs.whole_set.clear.Statement.{statement}
 use Rattle.edits.proofs.whole_set.clear.Tie as tie
 
-check-requires : tie.Need-check-requires
-check-requires c κs = search needs
-
-same-length : tie.Need-same-length
-same-length c = search needs
-
 returns : tie.Need-returns
 returns c =
-    given-no (λ m. record { number = m; set = c .before .before .before .before .args .set; words = now (c .before .before .before .before .args .words) }) _ (c .before .check .ensures) (c .if1 .taken)
-
-blocks-of-requires : tie.Need-blocks-of-requires
-blocks-of-requires c κs = search needs
-
-change-blocks-requires : tie.Need-change-blocks-requires
-change-blocks-requires c κs = search needs
-
-same-length-2 : tie.Need-same-length-2
-same-length-2 c = search needs
+    edited-no _ _ _ (c .before .check .ensures) (c .if1 .taken)
 
 returns-2 : tie.Need-returns-2
 returns-2 c =
@@ -45,10 +30,10 @@ pub clear-spec : {M : Type 1} → statement M
 clear-spec =
     tie.close
     (tie.spec
-    check-requires
-    same-length
+    (λ c κs. search needs)
+    (λ c. search needs)
     returns
-    blocks-of-requires
-    change-blocks-requires
-    same-length-2
+    (λ c κs. search needs)
+    (λ c κs. search needs)
+    (λ c. search needs)
     returns-2)

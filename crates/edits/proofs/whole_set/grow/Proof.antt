@@ -1,14 +1,14 @@
 -- `growth::grow` meets its contract. Assumes nothing.
 use mathlib.Core.Path.{_≡_, sym, ap, ap₂, _∙_}
 use mathlib.Core.List.{List}
-use Prim.Native.Nat.{ℕ, max}
+use Prim.Native.Nat.{ℕ}
 use denote.Ref.{now}
 use lib.ListN.{length}
 use Rattle.blocks.specs.Sweeps.{swept}
 use Rattle.sets.specs.Members.{wordsOf, read, setOf, empty}
 use Rattle.sets.specs.Questions.{questions, newQuestions}
 use Rattle.sets.specs.declared.fixed_bit_set.FixedBitSet.{FixedBitSet}
-use Rattle.sets.proofs.OutcomeLaws.{given-no, given-yes}
+use Rattle.sets.proofs.OutcomeLaws.{given-yes, edited-no}
 use Rattle.sets.proofs.QuestionLaws.{first-no, first-yes, valid, room}
 use Rattle.blocks.proofs.BlockLaws.{zeroed}
 use Rattle.edits.specs.Edits.{grown}
@@ -17,45 +17,15 @@ use borrow.Author.Needs.{needs}
 use Rattle.edits.proofs.whole_set.grow.Statement.{statement}
 use Rattle.edits.proofs.whole_set.grow.Tie as tie
 
-check-requires : tie.Need-check-requires
-check-requires c κs = search needs
-
-same-length : tie.Need-same-length
-same-length c = search needs
-
 returns : tie.Need-returns
 returns c =
-    given-no (λ m. record { number = m; set = c .before .before .before .before .args .set; words = now (c .before .before .before .before .args .words) }) _ (first-no _ (c .before .check .ensures) (c .if1 .taken)) (c .if1 .taken)
-
-larger-requires : tie.Need-larger-requires
-larger-requires c κs = search needs
-
-ask-new-requires : tie.Need-ask-new-requires
-ask-new-requires c κs = search needs
-
-same-length-2 : tie.Need-same-length-2
-same-length-2 c = search needs
+    edited-no _ _ _ (first-no _ (c .before .check .ensures) (c .if1 .taken)) (c .if1 .taken)
 
 returns-2 : tie.Need-returns-2
 returns-2 c =
-    given-no (λ m. record { number = m; set = c .before .before .before .before .before .before .before .before .args .set; words = now (c .before .before .before .before .before .before .before .before .args .words) }) _
+    edited-no _ _ _
     (first-yes (sym (c .before .before .before .before .before .check .ensures) ∙ c .before .before .before .before .if1 .left)
     (c .before .ask-new .ensures ∙ ap (λ (n : ℕ). newQuestions n (length (now (c .before .before .before .before .before .before .before .before .args .words)))) (c .before .before .before .larger .ensures))) (c .if2 .taken)
-
-blocks-of-requires : tie.Need-blocks-of-requires
-blocks-of-requires c κs = search needs
-
-blocks-of-requires-2 : tie.Need-blocks-of-requires-2
-blocks-of-requires-2 c κs = search needs
-
-change-blocks-requires : tie.Need-change-blocks-requires
-change-blocks-requires c κs = search needs
-
-new-requires : tie.Need-new-requires
-new-requires c κs = search needs
-
-same-length-3 : tie.Need-same-length-3
-same-length-3 c = search needs
 
 returns-3 : tie.Need-returns-3
 unfolding grown read
@@ -76,16 +46,16 @@ pub grow-spec : {M : Type 1} → statement M
 grow-spec =
     tie.close
     (tie.spec
-    check-requires
-    same-length
+    (λ c κs. search needs)
+    (λ c. search needs)
     returns
-    larger-requires
-    ask-new-requires
-    same-length-2
+    (λ c κs. search needs)
+    (λ c κs. search needs)
+    (λ c. search needs)
     returns-2
-    blocks-of-requires
-    blocks-of-requires-2
-    change-blocks-requires
-    new-requires
-    same-length-3
+    (λ c κs. search needs)
+    (λ c κs. search needs)
+    (λ c κs. search needs)
+    (λ c κs. search needs)
+    (λ c. search needs)
     returns-3)

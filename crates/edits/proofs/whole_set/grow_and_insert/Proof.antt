@@ -1,14 +1,13 @@
 -- `growth::grow_and_insert` meets its contract. Assumes nothing.
-use mathlib.Core.Path.{_≡_, refl, sym, ap, ap₂, _∙_}
+use mathlib.Core.Path.{refl, sym, ap, ap₂, _∙_}
 use mathlib.Core.List.{List}
-use Prim.Native.Nat.{ℕ, _+_, _/_, _%_, max}
+use Prim.Native.Nat.{ℕ, _+_, _/_, _%_}
 use denote.Ref.{now}
 use lib.ListN.{getD, set as setAt}
 use Rattle.word_bits.proofs.SingleBit.{single-bit}
 use Rattle.sets.specs.Members.{read, changed}
 use Rattle.sets.specs.Outcomes.{Outcome}
-use Rattle.sets.specs.declared.fixed_bit_set.FixedBitSet.{FixedBitSet}
-use Rattle.sets.proofs.OutcomeLaws.{given-no, given-yes, given-refused, given-accepted}
+use Rattle.sets.proofs.OutcomeLaws.{given-yes, given-refused, given-accepted, edited-no}
 use Rattle.sets.proofs.QuestionLaws.{first-no, first-yes, first-both, valid, room, question-6}
 use Rattle.edits.specs.Changes.{changedWord}
 use Rattle.edits.specs.Edits.{grown}
@@ -19,45 +18,18 @@ use native.Mathlib.Omega.{arith}
 use Rattle.edits.proofs.whole_set.grow_and_insert.Statement.{statement}
 use Rattle.edits.proofs.whole_set.grow_and_insert.Tie as tie
 
-check-requires : tie.Need-check-requires
-check-requires c κs = search needs
-
-same-length : tie.Need-same-length
-same-length c = search needs
-
 returns : tie.Need-returns
 returns c =
-    given-no (λ m. record { number = m; set = c .before .before .before .before .before .args .set; words = now (c .before .before .before .before .before .args .words) }) _ (first-no _ (c .before .check .ensures) (c .if2 .taken)) (c .if2 .taken)
-
-same-length-2 : tie.Need-same-length-2
-same-length-2 c = search needs
+    edited-no _ _ _ (first-no _ (c .before .check .ensures) (c .if2 .taken)) (c .if2 .taken)
 
 returns-2 : tie.Need-returns-2
 returns-2 c =
-    given-no (λ m. record { number = m; set = c .before .before .before .before .before .args .set; words = now (c .before .before .before .before .before .args .words) }) _
+    edited-no _ _ _
     (first-yes (sym (c .before .check .ensures) ∙ c .if2 .left) (sym (question-6 _ _ (omega arith)))) (λ z. omega arith)
-
-add-grow : tie.Need-add-grow
-add-grow c = search needs
-
-grow-requires : tie.Need-grow-requires
-grow-requires c κs = search needs
-
-same-length-3 : tie.Need-same-length-3
-same-length-3 c = search needs
 
 returns-3 : tie.Need-returns-3
 returns-3 c =
     given-refused (λ (o : Outcome). o .number) _ _ _ _ refl (c .before .before .before .grow .ensures) (c .if3 .taken)
-
-shl-change-block : tie.Need-shl-change-block
-shl-change-block c = search needs
-
-change-block-requires : tie.Need-change-block-requires
-change-block-requires c κs = search needs
-
-same-length-4 : tie.Need-same-length-4
-same-length-4 c = search needs
 
 returns-4 : tie.Need-returns-4
 unfolding grown read changed
@@ -83,16 +55,16 @@ pub grow-and-insert-spec : {M : Type 1} → statement M
 grow-and-insert-spec =
     tie.close
     (tie.spec
-    check-requires
-    same-length
+    (λ c κs. search needs)
+    (λ c. search needs)
     returns
-    same-length-2
+    (λ c. search needs)
     returns-2
-    add-grow
-    grow-requires
-    same-length-3
+    (λ c. search needs)
+    (λ c κs. search needs)
+    (λ c. search needs)
     returns-3
-    shl-change-block
-    change-block-requires
-    same-length-4
+    (λ c. search needs)
+    (λ c κs. search needs)
+    (λ c. search needs)
     returns-4)

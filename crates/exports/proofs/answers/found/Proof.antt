@@ -4,12 +4,13 @@ use borrow.Author.Needs.{needs}
 use Rattle.exports.proofs.answers.found.Statement.{statement}
 use Rattle.exports.proofs.answers.found.Tie as tie
 
-place-of-requires : tie.Need-place-of-requires
-place-of-requires c κs = search needs
-
 returns : tie.Need-returns
 unfolding exportFound
 returns c = rw (c .place-of .ensures)
 
 pub found-spec : {M : Type 1} → statement M
-found-spec = tie.close (tie.spec place-of-requires returns)
+found-spec =
+    tie.close
+    (tie.spec
+    (λ c κs. search needs)
+    returns)

@@ -3,9 +3,6 @@ use borrow.Author.Needs.{needs}
 use Rattle.exports.proofs.answers.place_of.Statement.{statement}
 use Rattle.exports.proofs.answers.place_of.Tie as tie
 
-enum-known-at : tie.Need-enum-known-at
-enum-known-at c = search needs
-
 enum-told : tie.Need-enum-told
 enum-told c = search needs
 
@@ -16,4 +13,10 @@ returns-2 : tie.Need-returns-2
 returns-2 c = rw (c .enum-told .given .1)
 
 pub place-of-spec : {M : Type 1} → statement M
-place-of-spec = tie.close (tie.spec enum-known-at enum-told returns returns-2)
+place-of-spec =
+    tie.close
+    (tie.spec
+    (λ c. search needs)
+    enum-told
+    returns
+    returns-2)

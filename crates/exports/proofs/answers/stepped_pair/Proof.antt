@@ -4,12 +4,13 @@ use borrow.Author.Needs.{needs}
 use Rattle.exports.proofs.answers.stepped_pair.Statement.{statement}
 use Rattle.exports.proofs.answers.stepped_pair.Tie as tie
 
-place-of-requires : tie.Need-place-of-requires
-place-of-requires c κs = search needs
-
 returns : tie.Need-returns
 unfolding exportSteppedPair
 returns c = rw (c .place-of .ensures)
 
 pub stepped-pair-spec : {M : Type 1} → statement M
-stepped-pair-spec = tie.close (tie.spec place-of-requires returns)
+stepped-pair-spec =
+    tie.close
+    (tie.spec
+    (λ c κs. search needs)
+    returns)

@@ -5,14 +5,13 @@ use borrow.Author.Needs.{needs}
 use Rattle.exports.proofs.pair_walk_calls.fbs_difference_next.Statement.{statement}
 use Rattle.exports.proofs.pair_walk_calls.fbs_difference_next.Tie as tie
 
-difference-next-requires : tie.Need-difference-next-requires
-difference-next-requires c κs = search needs
-
-stepped-requires : tie.Need-stepped-requires
-stepped-requires c κs = search needs
-
 returns : tie.Need-returns
 returns c = c .stepped .ensures ∙ ap exportStepped (c .before .difference-next .ensures)
 
 pub fbs-difference-next-spec : {M : Type 1} → statement M
-fbs-difference-next-spec = tie.close (tie.spec difference-next-requires stepped-requires returns)
+fbs-difference-next-spec =
+    tie.close
+    (tie.spec
+    (λ c κs. search needs)
+    (λ c κs. search needs)
+    returns)

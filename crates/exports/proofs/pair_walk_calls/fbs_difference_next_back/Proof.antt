@@ -5,14 +5,13 @@ use borrow.Author.Needs.{needs}
 use Rattle.exports.proofs.pair_walk_calls.fbs_difference_next_back.Statement.{statement}
 use Rattle.exports.proofs.pair_walk_calls.fbs_difference_next_back.Tie as tie
 
-difference-next-back-requires : tie.Need-difference-next-back-requires
-difference-next-back-requires c κs = search needs
-
-stepped-requires : tie.Need-stepped-requires
-stepped-requires c κs = search needs
-
 returns : tie.Need-returns
 returns c = c .stepped .ensures ∙ ap exportStepped (c .before .difference-next-back .ensures)
 
 pub fbs-difference-next-back-spec : {M : Type 1} → statement M
-fbs-difference-next-back-spec = tie.close (tie.spec difference-next-back-requires stepped-requires returns)
+fbs-difference-next-back-spec =
+    tie.close
+    (tie.spec
+    (λ c κs. search needs)
+    (λ c κs. search needs)
+    returns)

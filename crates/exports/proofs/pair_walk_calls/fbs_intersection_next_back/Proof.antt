@@ -5,14 +5,13 @@ use borrow.Author.Needs.{needs}
 use Rattle.exports.proofs.pair_walk_calls.fbs_intersection_next_back.Statement.{statement}
 use Rattle.exports.proofs.pair_walk_calls.fbs_intersection_next_back.Tie as tie
 
-intersection-next-back-requires : tie.Need-intersection-next-back-requires
-intersection-next-back-requires c κs = search needs
-
-stepped-requires : tie.Need-stepped-requires
-stepped-requires c κs = search needs
-
 returns : tie.Need-returns
 returns c = c .stepped .ensures ∙ ap exportStepped (c .before .intersection-next-back .ensures)
 
 pub fbs-intersection-next-back-spec : {M : Type 1} → statement M
-fbs-intersection-next-back-spec = tie.close (tie.spec intersection-next-back-requires stepped-requires returns)
+fbs-intersection-next-back-spec =
+    tie.close
+    (tie.spec
+    (λ c κs. search needs)
+    (λ c κs. search needs)
+    returns)

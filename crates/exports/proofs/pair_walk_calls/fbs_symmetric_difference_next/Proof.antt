@@ -5,14 +5,13 @@ use borrow.Author.Needs.{needs}
 use Rattle.exports.proofs.pair_walk_calls.fbs_symmetric_difference_next.Statement.{statement}
 use Rattle.exports.proofs.pair_walk_calls.fbs_symmetric_difference_next.Tie as tie
 
-symmetric-difference-next-requires : tie.Need-symmetric-difference-next-requires
-symmetric-difference-next-requires c κs = search needs
-
-stepped-pair-requires : tie.Need-stepped-pair-requires
-stepped-pair-requires c κs = search needs
-
 returns : tie.Need-returns
 returns c = c .stepped-pair .ensures ∙ ap exportSteppedPair (c .before .symmetric-difference-next .ensures)
 
 pub fbs-symmetric-difference-next-spec : {M : Type 1} → statement M
-fbs-symmetric-difference-next-spec = tie.close (tie.spec symmetric-difference-next-requires stepped-pair-requires returns)
+fbs-symmetric-difference-next-spec =
+    tie.close
+    (tie.spec
+    (λ c κs. search needs)
+    (λ c κs. search needs)
+    returns)

@@ -5,14 +5,13 @@ use borrow.Author.Needs.{needs}
 use Rattle.exports.proofs.query_calls.fbs_maximum.Statement.{statement}
 use Rattle.exports.proofs.query_calls.fbs_maximum.Tie as tie
 
-maximum-requires : tie.Need-maximum-requires
-maximum-requires c κs = search needs
-
-found-requires : tie.Need-found-requires
-found-requires c κs = search needs
-
 returns : tie.Need-returns
 returns c = c .found .ensures ∙ ap exportFound (c .before .maximum .ensures)
 
 pub fbs-maximum-spec : {M : Type 1} → statement M
-fbs-maximum-spec = tie.close (tie.spec maximum-requires found-requires returns)
+fbs-maximum-spec =
+    tie.close
+    (tie.spec
+    (λ c κs. search needs)
+    (λ c κs. search needs)
+    returns)

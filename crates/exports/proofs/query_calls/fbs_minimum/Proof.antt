@@ -5,14 +5,13 @@ use borrow.Author.Needs.{needs}
 use Rattle.exports.proofs.query_calls.fbs_minimum.Statement.{statement}
 use Rattle.exports.proofs.query_calls.fbs_minimum.Tie as tie
 
-minimum-requires : tie.Need-minimum-requires
-minimum-requires c κs = search needs
-
-found-requires : tie.Need-found-requires
-found-requires c κs = search needs
-
 returns : tie.Need-returns
 returns c = c .found .ensures ∙ ap exportFound (c .before .minimum .ensures)
 
 pub fbs-minimum-spec : {M : Type 1} → statement M
-fbs-minimum-spec = tie.close (tie.spec minimum-requires found-requires returns)
+fbs-minimum-spec =
+    tie.close
+    (tie.spec
+    (λ c κs. search needs)
+    (λ c κs. search needs)
+    returns)

@@ -1,11 +1,10 @@
 -- `exports::fbs_longer` meets its contract. Assumes nothing.
-use mathlib.Core.Path.{_≡_, sym, ap, _∙_}
+use mathlib.Core.Path.{sym, ap, _∙_}
 use mathlib.Core.Bool.{false}
 use Prim.Native.Nat.{ℕ}
 use lib.Dec.{leb}
 use borrow.Author.Needs.{needs}
 use Rattle.sets.proofs.OutcomeLaws.{given-no, given-yes}
-use Rattle.exports.specs.declared.answers.FbsLonger.{FbsLonger}
 use Rattle.exports.proofs.SliceLaws.{longer-none, longer-count}
 use Rattle.exports.proofs.two_set_calls.fbs_longer.Statement.{statement}
 use Rattle.exports.proofs.two_set_calls.fbs_longer.Tie as tie

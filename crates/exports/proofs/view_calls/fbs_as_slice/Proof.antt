@@ -1,5 +1,5 @@
 -- `exports::fbs_as_slice` meets its contract. Assumes nothing.
-use mathlib.Core.Path.{_≡_, ap, _∙_}
+use mathlib.Core.Path.{ap, _∙_}
 use denote.Ref.{now}
 use lib.ListN.{length}
 use borrow.Author.Needs.{needs}
@@ -7,7 +7,6 @@ use Rattle.sets.specs.Members.{wordsOf}
 use Rattle.sets.specs.Questions.{questions}
 use Rattle.sets.specs.Rules.{SlicePart}
 use Rattle.sets.proofs.QuestionLaws.{valid}
-use Rattle.exports.specs.declared.answers.FbsSlice.{FbsSlice}
 use Rattle.exports.proofs.SliceLaws.{slice-counts}
 use Rattle.exports.proofs.view_calls.fbs_as_slice.Statement.{statement}
 use Rattle.exports.proofs.view_calls.fbs_as_slice.Tie as tie

@@ -5,14 +5,13 @@ use borrow.Author.Needs.{needs}
 use Rattle.exports.proofs.walk_calls.fbs_ones_next.Statement.{statement}
 use Rattle.exports.proofs.walk_calls.fbs_ones_next.Tie as tie
 
-ones-next-requires : tie.Need-ones-next-requires
-ones-next-requires c κs = search needs
-
-stepped-requires : tie.Need-stepped-requires
-stepped-requires c κs = search needs
-
 returns : tie.Need-returns
 returns c = c .stepped .ensures ∙ ap exportStepped (c .before .ones-next .ensures)
 
 pub fbs-ones-next-spec : {M : Type 1} → statement M
-fbs-ones-next-spec = tie.close (tie.spec ones-next-requires stepped-requires returns)
+fbs-ones-next-spec =
+    tie.close
+    (tie.spec
+    (λ c κs. search needs)
+    (λ c κs. search needs)
+    returns)

@@ -5,14 +5,13 @@ use borrow.Author.Needs.{needs}
 use Rattle.exports.proofs.walk_calls.fbs_ones_next_back.Statement.{statement}
 use Rattle.exports.proofs.walk_calls.fbs_ones_next_back.Tie as tie
 
-ones-next-back-requires : tie.Need-ones-next-back-requires
-ones-next-back-requires c κs = search needs
-
-stepped-requires : tie.Need-stepped-requires
-stepped-requires c κs = search needs
-
 returns : tie.Need-returns
 returns c = c .stepped .ensures ∙ ap exportStepped (c .before .ones-next-back .ensures)
 
 pub fbs-ones-next-back-spec : {M : Type 1} → statement M
-fbs-ones-next-back-spec = tie.close (tie.spec ones-next-back-requires stepped-requires returns)
+fbs-ones-next-back-spec =
+    tie.close
+    (tie.spec
+    (λ c κs. search needs)
+    (λ c κs. search needs)
+    returns)

@@ -8,15 +8,6 @@ use borrow.Author.Needs.{needs}
 use Rattle.exports.proofs.walk_calls.fbs_walker_step.Statement.{statement}
 use Rattle.exports.proofs.walk_calls.fbs_walker_step.Tie as tie
 
-end-at-requires : tie.Need-end-at-requires
-end-at-requires c κs = search needs
-
-walker-step-requires : tie.Need-walker-step-requires
-walker-step-requires c κs = search needs
-
-stepped-requires : tie.Need-stepped-requires
-stepped-requires c κs = search needs
-
 returns : tie.Need-returns
 returns c =
     let a = c .before .before .before .before .args in
@@ -25,4 +16,8 @@ returns c =
 
 pub fbs-walker-step-spec : {M : Type 1} → statement M
 fbs-walker-step-spec =
-    tie.close (tie.spec end-at-requires walker-step-requires stepped-requires returns)
+    tie.close (tie.spec
+    (λ c κs. search needs)
+    (λ c κs. search needs)
+    (λ c κs. search needs)
+    returns)

@@ -5,14 +5,13 @@ use borrow.Author.Needs.{needs}
 use Rattle.exports.proofs.walk_calls.fbs_zeroes_next.Statement.{statement}
 use Rattle.exports.proofs.walk_calls.fbs_zeroes_next.Tie as tie
 
-zeroes-next-requires : tie.Need-zeroes-next-requires
-zeroes-next-requires c κs = search needs
-
-stepped-requires : tie.Need-stepped-requires
-stepped-requires c κs = search needs
-
 returns : tie.Need-returns
 returns c = c .stepped .ensures ∙ ap exportStepped (c .before .zeroes-next .ensures)
 
 pub fbs-zeroes-next-spec : {M : Type 1} → statement M
-fbs-zeroes-next-spec = tie.close (tie.spec zeroes-next-requires stepped-requires returns)
+fbs-zeroes-next-spec =
+    tie.close
+    (tie.spec
+    (λ c κs. search needs)
+    (λ c κs. search needs)
+    returns)

@@ -7,14 +7,8 @@ use borrow.Author.Needs.{needs}
 use Rattle.history.proofs.run.ask_run.Statement.{statement}
 use Rattle.history.proofs.run.ask_run.Tie as tie
 
-ask-new-requires : tie.Need-ask-new-requires
-ask-new-requires c κs = search needs
-
 returns : tie.Need-returns
 returns c = first-no _ (c .before .ask-new .ensures) (c .if1 .taken)
-
-ask-new-requires-2 : tie.Need-ask-new-requires-2
-ask-new-requires-2 c κs = search needs
 
 returns-2 : tie.Need-returns-2
 returns-2 c = first-yes (sym (c .before .before .before .ask-new .ensures) ∙ c .before .before .if1 .left) (first-no _ (c .before .ask-new2 .ensures) (c .if2 .taken))
@@ -31,4 +25,10 @@ returns-4 c =
 
 pub ask-run-spec : {M : Type 1} → statement M
 ask-run-spec =
-    tie.close (tie.spec ask-new-requires returns ask-new-requires-2 returns-2 returns-3 returns-4)
+    tie.close (tie.spec
+    (λ c κs. search needs)
+    returns
+    (λ c κs. search needs)
+    returns-2
+    returns-3
+    returns-4)

@@ -12,21 +12,6 @@ use Rattle.masks.proofs.range_masks.range_mask.Tie as tie
 returns : tie.Need-returns
 returns c = sym (mask-after (c .before .args .start) (c .before .args .end) (c .before .args .word) (omega arith))
 
-mul-base : tie.Need-mul-base
-mul-base c = search needs
-
-above-requires : tie.Need-above-requires
-above-requires c κs = search needs
-
-low-mask-requires : tie.Need-low-mask-requires
-low-mask-requires c κs = search needs
-
-above-requires-2 : tie.Need-above-requires-2
-above-requires-2 c κs = search needs
-
-low-mask-requires-2 : tie.Need-low-mask-requires-2
-low-mask-requires-2 c κs = search needs
-
 returns-2 : tie.Need-returns-2
 returns-2 c =
     ap₂ (λ (e s : ℕ). bitAnd e ((2 ^ 64 - 1) - s))
@@ -39,9 +24,9 @@ range-mask-spec =
     tie.close
     (tie.spec
     returns
-    mul-base
-    above-requires
-    low-mask-requires
-    above-requires-2
-    low-mask-requires-2
+    (λ c. search needs)
+    (λ c κs. search needs)
+    (λ c κs. search needs)
+    (λ c κs. search needs)
+    (λ c κs. search needs)
     returns-2)

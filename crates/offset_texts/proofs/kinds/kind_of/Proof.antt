@@ -37,9 +37,6 @@ unfolding kindOf isDigit isHash
 returns-6 c =
     simp (no-blank (c .before .before .before), ne-eqb _ 35 (c .before .before .if4 .left), le-leb 48 _ (c .before .if5 .left), lt-leb _ 57 (c .if6 .taken))
 
-cast-t4 : tie.Need-cast-t4
-cast-t4 c = search needs
-
 returns-7 : tie.Need-returns-7
 unfolding kindOf isDigit
 returns-7 c = simp (no-blank (c .before .before .before), le-leb 48 _ (c .before .if5 .left), le-leb _ 57 (c .if6 .left))
@@ -47,4 +44,12 @@ returns-7 c = simp (no-blank (c .before .before .before), le-leb 48 _ (c .before
 pub kind-of-spec : {M : Type 1} → statement M
 kind-of-spec =
     tie.close
-    (tie.spec returns returns-2 returns-3 returns-4 returns-5 returns-6 cast-t4 returns-7)
+    (tie.spec
+    returns
+    returns-2
+    returns-3
+    returns-4
+    returns-5
+    returns-6
+    (λ c. search needs)
+    returns-7)

@@ -6,27 +6,6 @@ use Rattle.offset_texts.proofs.readings.rest_step.Tie as tie
 enum-told : tie.Need-enum-told
 enum-told c = search needs
 
-moved-on-requires : tie.Need-moved-on-requires
-moved-on-requires c κs = search needs
-
-enum-told-2 : tie.Need-enum-told-2
-enum-told-2 c = search needs
-
-moved-on-requires-2 : tie.Need-moved-on-requires-2
-moved-on-requires-2 c κs = search needs
-
-enum-told-3 : tie.Need-enum-told-3
-enum-told-3 c = search needs
-
-moved-on-requires-3 : tie.Need-moved-on-requires-3
-moved-on-requires-3 c κs = search needs
-
-enum-told-4 : tie.Need-enum-told-4
-enum-told-4 c = search needs
-
-moved-on-requires-4 : tie.Need-moved-on-requires-4
-moved-on-requires-4 c κs = search needs
-
 returns : tie.Need-returns
 returns c = rw (c .before .enum-told .given .1) (c .moved-on .ensures)
 
@@ -44,13 +23,13 @@ rest-step-spec =
     tie.close
     (tie.spec
     enum-told
-    moved-on-requires
-    enum-told-2
-    moved-on-requires-2
-    enum-told-3
-    moved-on-requires-3
-    enum-told-4
-    moved-on-requires-4
+    (λ c κs. search needs)
+    (λ c. search needs)
+    (λ c κs. search needs)
+    (λ c. search needs)
+    (λ c κs. search needs)
+    (λ c. search needs)
+    (λ c κs. search needs)
     returns
     returns-2
     returns-3

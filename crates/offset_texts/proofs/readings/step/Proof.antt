@@ -8,42 +8,6 @@ use Rattle.offset_texts.proofs.readings.step.Tie as tie
 enum-told : tie.Need-enum-told
 enum-told c = search needs
 
-kind-of-requires : tie.Need-kind-of-requires
-kind-of-requires c κs = search needs
-
-number-step-requires : tie.Need-number-step-requires
-number-step-requires c κs = search needs
-
-enum-told-2 : tie.Need-enum-told-2
-enum-told-2 c = search needs
-
-kind-of-requires-2 : tie.Need-kind-of-requires-2
-kind-of-requires-2 c κs = search needs
-
-number-step-requires-2 : tie.Need-number-step-requires-2
-number-step-requires-2 c κs = search needs
-
-enum-told-3 : tie.Need-enum-told-3
-enum-told-3 c = search needs
-
-kind-of-requires-3 : tie.Need-kind-of-requires-3
-kind-of-requires-3 c κs = search needs
-
-rest-step-requires : tie.Need-rest-step-requires
-rest-step-requires c κs = search needs
-
-enum-told-4 : tie.Need-enum-told-4
-enum-told-4 c = search needs
-
-moved-on-requires : tie.Need-moved-on-requires
-moved-on-requires c κs = search needs
-
-enum-told-5 : tie.Need-enum-told-5
-enum-told-5 c = search needs
-
-moved-on-requires-2 : tie.Need-moved-on-requires-2
-moved-on-requires-2 c κs = search needs
-
 returns : tie.Need-returns
 returns c = step-by _ _ (c .before .before .enum-told .given .1) (c .before .kind-of .ensures) (c .number-step .ensures)
 
@@ -64,18 +28,18 @@ step-spec =
     tie.close
     (tie.spec
     enum-told
-    kind-of-requires
-    number-step-requires
-    enum-told-2
-    kind-of-requires-2
-    number-step-requires-2
-    enum-told-3
-    kind-of-requires-3
-    rest-step-requires
-    enum-told-4
-    moved-on-requires
-    enum-told-5
-    moved-on-requires-2
+    (λ c κs. search needs)
+    (λ c κs. search needs)
+    (λ c. search needs)
+    (λ c κs. search needs)
+    (λ c κs. search needs)
+    (λ c. search needs)
+    (λ c κs. search needs)
+    (λ c κs. search needs)
+    (λ c. search needs)
+    (λ c κs. search needs)
+    (λ c. search needs)
+    (λ c κs. search needs)
     returns
     returns-2
     returns-3

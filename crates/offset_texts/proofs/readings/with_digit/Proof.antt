@@ -3,14 +3,13 @@ use borrow.Author.Needs.{needs}
 use Rattle.offset_texts.proofs.readings.with_digit.Statement.{statement}
 use Rattle.offset_texts.proofs.readings.with_digit.Tie as tie
 
-count-more-requires : tie.Need-count-more-requires
-count-more-requires c κs = search needs
-
-value-more-requires : tie.Need-value-more-requires
-value-more-requires c κs = search needs
-
 returns : tie.Need-returns
 returns c = rw (c .before .count-more .ensures, c .value-more .ensures)
 
 pub with-digit-spec : {M : Type 1} → statement M
-with-digit-spec = tie.close (tie.spec count-more-requires value-more-requires returns)
+with-digit-spec =
+    tie.close
+    (tie.spec
+    (λ c κs. search needs)
+    (λ c κs. search needs)
+    returns)

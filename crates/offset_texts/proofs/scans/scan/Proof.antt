@@ -14,26 +14,11 @@ Inv-loop piece at k₀ state₀ k state = scanOf (drop k piece) k state ≡ scan
 abbrev μ-loop : tie.MeasureT-loop
 μ-loop piece at k₀ state₀ k state = length piece - k
 
-loop-holds : tie.Need-loop-holds Inv-loop μ-loop
-loop-holds c = refl
-
-shared-slice-read-byte : tie.Need-shared-slice-read-byte Inv-loop μ-loop
-shared-slice-read-byte c = search needs
-
-add-k : tie.Need-add-k Inv-loop μ-loop
-add-k c = search needs
-
 returns : tie.Need-returns Inv-loop μ-loop
 returns c =
     let at = c .before .before .before .loop in
     let piece = c .before .before .before .before .before .args .piece .now in
     scan-ended piece (at .k) (at .state) (c .before .before .loop-test .taken) (c .if1 .taken) ∙ at .inv
-
-step-requires : tie.Need-step-requires Inv-loop μ-loop
-step-requires c κs = search needs
-
-loop-less : tie.Need-loop-less Inv-loop μ-loop
-loop-less c = search needs
 
 loop-again : tie.Need-loop-again Inv-loop μ-loop
 loop-again c =
@@ -52,11 +37,11 @@ scan-spec =
     (tie.spec
     Inv-loop
     μ-loop
-    loop-holds
-    shared-slice-read-byte
-    add-k
+    (λ c. refl)
+    (λ c. search needs)
+    (λ c. search needs)
     returns
-    step-requires
-    loop-less
+    (λ c κs. search needs)
+    (λ c. search needs)
     loop-again
     returns-2)

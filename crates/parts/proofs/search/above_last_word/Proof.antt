@@ -20,9 +20,6 @@ Inv-loop words other low high flip away all first k₀ k = (k ≤ endBlock low h
 abbrev μ-loop : tie.MeasureT-loop
 μ-loop words other low high flip away all first k₀ k = k
 
-new-requires : tie.Need-new-requires Inv-loop μ-loop
-new-requires c κs = search needs
-
 loop-holds : tie.Need-loop-holds Inv-loop μ-loop
 loop-holds c =
     let e = ap (λ (m : Masks). m .«end_block») (c .new .ensures) in
@@ -30,9 +27,6 @@ loop-holds c =
 
 sub-part-word : tie.Need-sub-part-word Inv-loop μ-loop
 sub-part-word c = omega (arith, c .if1 .left)
-
-part-word-requires : tie.Need-part-word-requires Inv-loop μ-loop
-part-word-requires c κs = search needs
 
 sub-k : tie.Need-sub-k Inv-loop μ-loop
 sub-k c = omega (arith, c .before .before .if1 .left)
@@ -68,10 +62,10 @@ above-last-word-spec =
     (tie.spec
     Inv-loop
     μ-loop
-    new-requires
+    (λ c κs. search needs)
     loop-holds
     sub-part-word
-    part-word-requires
+    (λ c κs. search needs)
     sub-k
     loop-less
     loop-again

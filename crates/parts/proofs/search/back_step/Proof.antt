@@ -1,6 +1,6 @@
 -- `parts::search::back_step` meets its contract. Assumes nothing.
-use mathlib.Core.Path.{_≡_, sym, ap, _∙_}
-use Prim.Native.Nat.{ℕ, _≤_, _<_, _+_, _-_, _*_, _/_}
+use mathlib.Core.Path.{sym}
+use Prim.Native.Nat.{ℕ, _<_, _+_, _-_, _*_}
 use denote.Ref.{now}
 use Rattle.word_bits.specs.Counts.{zerosAbove}
 use Rattle.word_bits.specs.Digits.{digit}
@@ -14,20 +14,11 @@ use native.Mathlib.Omega.{arith}
 use Rattle.parts.proofs.search.back_step.Statement.{statement}
 use Rattle.parts.proofs.search.back_step.Tie as tie
 
-above-last-word-requires : tie.Need-above-last-word-requires
-above-last-word-requires c κs = search needs
-
 returns : tie.Need-returns
 returns c =
     let a = c .before .before .before .before .args in
     let end = endBlock (a .part .low) (a .part .high) in
     sym (back-none-words (selectedAt (a .flip) (a .away) (a .all) (now (a .words)) (now (a .other))) (λ k. select-lt (a .flip) (a .away) (a .all) _ _ (c .before .before .before .before .fits .flip .fits) (c .before .before .before .before .fits .away .fits) (c .before .before .before .before .fits .all .fits) (c .before .before .before .shared-slice-known .given k .fits) (c .before .before .shared-slice-known2 .given k .fits)) (a .part) (λ k l h. descend-after (λ (i : ℕ). partWord (a .flip) (a .away) (a .all) (now (a .words)) (now (a .other)) (a .part .low) (a .part .high) i) end 0 (c .before .above-last-word .result) (c .before .above-last-word .ensures) k (omega (arith, c .if1 .taken)) h))
-
-sub-part-word : tie.Need-sub-part-word
-sub-part-word c = search needs
-
-part-word-requires : tie.Need-part-word-requires
-part-word-requires c κs = search needs
 
 -- the position found is one of the part
 inside : (c : tie.After-part-word)
@@ -39,14 +30,8 @@ inside c =
     (highest-inside (selectedAt (a .flip) (a .away) (a .all) (now (a .words)) (now (a .other))) (λ k. select-lt (a .flip) (a .away) (a .all) _ _ (c .before .before .before .before .before .fits .flip .fits) (c .before .before .before .before .before .fits .away .fits) (c .before .before .before .before .before .fits .all .fits) (c .before .before .before .before .shared-slice-known .given k .fits) (c .before .before .before .shared-slice-known2 .given k .fits)) (a .part) (r - 1)
     (descend-stop (λ (i : ℕ). partWord (a .flip) (a .away) (a .all) (now (a .words)) (now (a .other)) (a .part .low) (a .part .high) i) (endBlock (a .part .low) (a .part .high)) 0 r (c .before .before .above-last-word .ensures) (c .before .if1 .left)))
 
-sub-p : tie.Need-sub-p
-sub-p c = search needs
-
 mul-p : tie.Need-mul-p
 mul-p c = omega (arith, inside c .1)
-
-leading-zeros-requires : tie.Need-leading-zeros-requires
-leading-zeros-requires c κs = search needs
 
 sub-p-2 : tie.Need-sub-p-2
 sub-p-2 c = omega (arith, inside (c .before) .0, c .leading-zeros .ensures)
@@ -68,13 +53,13 @@ pub back-step-spec : {M : Type 1} → statement M
 back-step-spec =
     tie.close
     (tie.spec
-    above-last-word-requires
+    (λ c κs. search needs)
     returns
-    sub-part-word
-    part-word-requires
-    sub-p
+    (λ c. search needs)
+    (λ c κs. search needs)
+    (λ c. search needs)
     mul-p
-    leading-zeros-requires
+    (λ c κs. search needs)
     sub-p-2
     add-p
     returns-2)

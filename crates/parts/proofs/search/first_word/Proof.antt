@@ -18,22 +18,10 @@ Inv-loop words other low high flip away all end k₀ k = (low / 64 ≤ k) × (k 
 abbrev μ-loop : tie.MeasureT-loop
 μ-loop words other low high flip away all end k₀ k = end - k
 
-new-requires : tie.Need-new-requires Inv-loop μ-loop
-new-requires c κs = search needs
-
 loop-holds : tie.Need-loop-holds Inv-loop μ-loop
 loop-holds c =
     let f = ap (λ (m : Masks). m .«first_block») (c .new .ensures) in
     (omega (arith, f), omega (arith, f), λ i a b. absurd (omega (arith, f)))
-
-part-word-requires : tie.Need-part-word-requires Inv-loop μ-loop
-part-word-requires c κs = search needs
-
-add-k : tie.Need-add-k Inv-loop μ-loop
-add-k c = search needs
-
-loop-less : tie.Need-loop-less Inv-loop μ-loop
-loop-less c = search needs
 
 loop-again : tie.Need-loop-again Inv-loop μ-loop
 loop-again c =
@@ -63,11 +51,11 @@ first-word-spec =
     (tie.spec
     Inv-loop
     μ-loop
-    new-requires
+    (λ c κs. search needs)
     loop-holds
-    part-word-requires
-    add-k
-    loop-less
+    (λ c κs. search needs)
+    (λ c. search needs)
+    (λ c. search needs)
     loop-again
     returns
     returns-2)

@@ -1,9 +1,9 @@
 -- `parts::search::front_step` meets its contract. Assumes nothing.
-use mathlib.Core.Path.{_≡_, sym, ap, ap₂, _∙_}
-use mathlib.Core.Logic.{inl, inr, ⊎-elim}
-use Prim.Native.Nat.{ℕ, _≤_, _<_, _+_, _-_, _*_, _/_, _^_}
+use mathlib.Core.Path.{sym, _∙_}
+use mathlib.Core.Logic.{⊎-elim}
+use Prim.Native.Nat.{ℕ, _≤_, _<_, _+_, _-_, _*_, _/_}
 use denote.Ref.{now}
-use Rattle.word_bits.specs.Counts.{zerosBelow, zerosAbove}
+use Rattle.word_bits.specs.Counts.{zerosBelow}
 use Rattle.word_bits.specs.Digits.{digit}
 use Rattle.word_bits.proofs.Order.{lt-or-le}
 use Rattle.masks.specs.Ranges.{endBlock}
@@ -15,12 +15,6 @@ use borrow.Author.Needs.{needs}
 use native.Mathlib.Omega.{arith}
 use Rattle.parts.proofs.search.front_step.Statement.{statement}
 use Rattle.parts.proofs.search.front_step.Tie as tie
-
-first-word-requires : tie.Need-first-word-requires
-first-word-requires c κs = search needs
-
-part-word-requires : tie.Need-part-word-requires
-part-word-requires c κs = search needs
 
 returns : tie.Need-returns
 returns c =
@@ -43,9 +37,6 @@ inside c =
 mul-p : tie.Need-mul-p
 mul-p c = omega (arith, inside c)
 
-trailing-zeros-requires : tie.Need-trailing-zeros-requires
-trailing-zeros-requires c κs = search needs
-
 add-p : tie.Need-add-p
 add-p c = omega (arith, inside (c .before), c .trailing-zeros .ensures)
 
@@ -66,11 +57,11 @@ pub front-step-spec : {M : Type 1} → statement M
 front-step-spec =
     tie.close
     (tie.spec
-    first-word-requires
-    part-word-requires
+    (λ c κs. search needs)
+    (λ c κs. search needs)
     returns
     mul-p
-    trailing-zeros-requires
+    (λ c κs. search needs)
     add-p
     add-t14
     returns-2)

@@ -3,7 +3,8 @@ use mathlib.Core.Path.{ap, _∙_, fun-ext}
 use mathlib.Core.Bool.{Bool}
 use Prim.Native.Nat.{ℕ}
 use denote.Ref.{now}
-use Rattle.parts.specs.Selections.{row, selectedAt}
+use Rattle.word_bits.specs.Digits.{row}
+use Rattle.parts.specs.Selections.{selectedAt}
 use Rattle.parts.specs.Steps.{front, back}
 use Rattle.parts.specs.declared.records.Chosen.{Chosen}
 use Rattle.parts.proofs.SelectLaws.{chosen-row}
@@ -11,20 +12,8 @@ use borrow.Author.Needs.{needs}
 use Rattle.parts.proofs.selections.step_selected.Statement.{statement}
 use Rattle.parts.proofs.selections.step_selected.Tie as tie
 
-chosen-requires : tie.Need-chosen-requires
-chosen-requires c κs = search needs
-
 enum-told : tie.Need-enum-told
 enum-told c = search needs
-
-front-step-requires : tie.Need-front-step-requires
-front-step-requires c κs = search needs
-
-enum-told-2 : tie.Need-enum-told-2
-enum-told-2 c = search needs
-
-back-step-requires : tie.Need-back-step-requires
-back-step-requires c κs = search needs
 
 returns : tie.Need-returns
 returns c =
@@ -50,10 +39,10 @@ pub step-selected-spec : {M : Type 1} → statement M
 step-selected-spec =
     tie.close
     (tie.spec
-    chosen-requires
+    (λ c κs. search needs)
     enum-told
-    front-step-requires
-    enum-told-2
-    back-step-requires
+    (λ c κs. search needs)
+    (λ c. search needs)
+    (λ c κs. search needs)
     returns
     returns-2)

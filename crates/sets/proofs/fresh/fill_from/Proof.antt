@@ -11,28 +11,10 @@ use native.Mathlib.Omega.{arith}
 use Rattle.sets.proofs.fresh.fill_from.Statement.{statement}
 use Rattle.sets.proofs.fresh.fill_from.Tie as tie
 
-lesser-requires : tie.Need-lesser-requires
-lesser-requires c κs = search needs
-
 -- what the two sweeps leave
 known : (c : tie.After-slice-known3) → c .before .before .change-blocks .last .0
     ≡ copied (c .before .before .before .before .before .before .before .before .before .before .before .args .bits) (now (c .before .before .before .before .before .before .before .before .before .before .before .args .blocks)) (now (c .before .before .before .before .before .before .before .before .before .before .before .args .words))
 known c = rw (c .before .before .change-blocks .ensures, c .before .before .before .before .before .before .before .copy-blocks .ensures, c .before .before .before .before .lesser .ensures)
-
-copy-blocks-requires : tie.Need-copy-blocks-requires
-copy-blocks-requires c κs = search needs
-
-change-blocks-requires : tie.Need-change-blocks-requires
-change-blocks-requires c κs = search needs
-
-block-requires : tie.Need-block-requires
-block-requires c κs = search needs
-
-low-mask-requires : tie.Need-low-mask-requires
-low-mask-requires c κs = search needs
-
-mul-words : tie.Need-mul-words
-mul-words c = search needs
 
 slice-write-words : tie.Need-slice-write-words
 unfolding wordsOf
@@ -59,9 +41,6 @@ returns c =
     (λ z. getD-set-same (copied n bs ws) (n / 64) _ 0 (rw (length-copied n bs ws room) (omega (arith, room))))
     (λ k h. getD-set-other (copied n bs ws) (n / 64) k _ 0 (λ e. omega arith) ∙ copied-out n bs ws room k (omega arith)))
 
-same-length-2 : tie.Need-same-length-2
-same-length-2 c = search needs
-
 returns-2 : tie.Need-returns-2
 unfolding wordsOf
 returns-2 c =
@@ -78,14 +57,14 @@ pub fill-from-spec : {M : Type 1} → statement M
 fill-from-spec =
     tie.close
     (tie.spec
-    copy-blocks-requires
-    lesser-requires
-    change-blocks-requires
-    block-requires
-    low-mask-requires
-    mul-words
+    (λ c κs. search needs)
+    (λ c κs. search needs)
+    (λ c κs. search needs)
+    (λ c κs. search needs)
+    (λ c κs. search needs)
+    (λ c. search needs)
     slice-write-words
     same-length
     returns
-    same-length-2
+    (λ c. search needs)
     returns-2)

@@ -1,43 +1,21 @@
 -- `fresh::with_capacity` meets its contract. Assumes nothing.
-use mathlib.Core.Path.{_≡_, sym, ap, ap₂, _∙_}
+use mathlib.Core.Path.{sym, ap, ap₂, _∙_}
 use mathlib.Core.List.{List}
 use Prim.Native.Nat.{ℕ}
 use denote.Ref.{now}
 use Rattle.blocks.specs.Sweeps.{swept}
-use Rattle.sets.specs.Members.{setOf, empty}
 use Rattle.sets.specs.declared.fixed_bit_set.FixedBitSet.{FixedBitSet}
 use Rattle.blocks.proofs.BlockLaws.{zeroed}
 use Rattle.sets.proofs.ZeroLaws.{zeroed-write}
-use Rattle.sets.proofs.OutcomeLaws.{given-no, given-yes}
+use Rattle.sets.proofs.OutcomeLaws.{given-yes, edited-no}
 use Rattle.sets.proofs.QuestionLaws.{room}
 use borrow.Author.Needs.{needs}
 use Rattle.sets.proofs.fresh.with_capacity.Statement.{statement}
 use Rattle.sets.proofs.fresh.with_capacity.Tie as tie
 
-ask-new-requires : tie.Need-ask-new-requires
-ask-new-requires c κs = search needs
-
-new-requires : tie.Need-new-requires
-new-requires c κs = search needs
-
-same-length : tie.Need-same-length
-same-length c = search needs
-
 returns : tie.Need-returns
 returns c =
-    rw (c .new .ensures) (given-no (λ m. record { number = m; set = setOf (empty 0); words = now (c .before .before .before .before .before .args .words) }) _ (c .before .before .ask-new .ensures) (c .before .if1 .taken))
-
-blocks-of-requires : tie.Need-blocks-of-requires
-blocks-of-requires c κs = search needs
-
-change-blocks-requires : tie.Need-change-blocks-requires
-change-blocks-requires c κs = search needs
-
-new-requires-2 : tie.Need-new-requires-2
-new-requires-2 c κs = search needs
-
-same-length-2 : tie.Need-same-length-2
-same-length-2 c = search needs
+    rw (c .new .ensures) (edited-no _ _ _ (c .before .before .ask-new .ensures) (c .before .if1 .taken))
 
 returns-2 : tie.Need-returns-2
 returns-2 c =
@@ -52,12 +30,12 @@ pub with-capacity-spec : {M : Type 1} → statement M
 with-capacity-spec =
     tie.close
     (tie.spec
-    ask-new-requires
-    new-requires
-    same-length
+    (λ c κs. search needs)
+    (λ c κs. search needs)
+    (λ c. search needs)
     returns
-    blocks-of-requires
-    change-blocks-requires
-    new-requires-2
-    same-length-2
+    (λ c κs. search needs)
+    (λ c κs. search needs)
+    (λ c κs. search needs)
+    (λ c. search needs)
     returns-2)

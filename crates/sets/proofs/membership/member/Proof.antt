@@ -1,7 +1,7 @@
 -- `sets::member` meets its contract. Assumes nothing.
 use mathlib.Core.Path.{sym, ap, _∙_}
 use mathlib.Core.Bool.{not}
-use Prim.Native.Nat.{ℕ, _/_, _%_}
+use Prim.Native.Nat.{ℕ, _%_}
 use lib.Bits.{bitAnd}
 use lib.Dec.{eqb}
 use Rattle.word_bits.specs.Digits.{digit}
@@ -16,12 +16,6 @@ use Rattle.sets.proofs.membership.member.Tie as tie
 returns : tie.Need-returns
 returns c = sym (read-above _ _ _ (c .if1 .taken))
 
-block-requires : tie.Need-block-requires
-block-requires c κs = search needs
-
-shl-result : tie.Need-shl-result
-shl-result c = search needs
-
 returns-2 : tie.Need-returns-2
 unfolding bitOf
 returns-2 c =
@@ -31,4 +25,10 @@ returns-2 c =
     ∙ sym (read-below _ _ _ (c .before .if1 .left))
 
 pub member-spec : {M : Type 1} → statement M
-member-spec = tie.close (tie.spec returns block-requires shl-result returns-2)
+member-spec =
+    tie.close
+    (tie.spec
+    returns
+    (λ c κs. search needs)
+    (λ c. search needs)
+    returns-2)

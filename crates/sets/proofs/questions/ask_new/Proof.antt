@@ -9,9 +9,6 @@ use Rattle.sets.proofs.questions.ask_new.Tie as tie
 returns : tie.Need-returns
 returns c = sym (question-6 _ _ (c .if1 .taken))
 
-blocks-of-requires : tie.Need-blocks-of-requires
-blocks-of-requires c κs = search needs
-
 returns-2 : tie.Need-returns-2
 returns-2 c = sym (question-7 _ _ (omega arith) (omega (arith, c .before .blocks-of .ensures, c .if2 .taken)))
 
@@ -19,4 +16,10 @@ returns-3 : tie.Need-returns-3
 returns-3 c = sym (room-yes _ _ (record { small = omega arith; enough = omega (arith, c .before .blocks-of .ensures, c .if2 .left) }))
 
 pub ask-new-spec : {M : Type 1} → statement M
-ask-new-spec = tie.close (tie.spec returns blocks-of-requires returns-2 returns-3)
+ask-new-spec =
+    tie.close
+    (tie.spec
+    returns
+    (λ c κs. search needs)
+    returns-2
+    returns-3)

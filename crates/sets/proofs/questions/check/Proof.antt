@@ -1,8 +1,6 @@
 -- `sets::check` meets its contract. Assumes nothing.
-use mathlib.Core.Path.{sym, ap, _∙_}
-use lib.ListN.{getD}
+use mathlib.Core.Path.{sym}
 use Prim.Native.Nat.{_/_}
-use lib.Bits.{bitAnd}
 use Rattle.sets.specs.Members.{wordsOf}
 use Rattle.sets.proofs.QuestionLaws.{question-1, question-2, valid-yes}
 use Rattle.sets.proofs.StrayLaws.{no-partial-word, clear-above, found-above}
@@ -14,9 +12,6 @@ use Rattle.sets.proofs.questions.check.Tie as tie
 returns : tie.Need-returns
 returns c = sym (question-1 _ _ (c .if1 .taken))
 
-blocks-of-requires : tie.Need-blocks-of-requires
-blocks-of-requires c κs = search needs
-
 returns-2 : tie.Need-returns-2
 returns-2 c = sym (question-2 _ _ (omega arith) (omega (arith, c .before .blocks-of .ensures, c .if2 .taken)))
 
@@ -24,15 +19,9 @@ returns-3 : tie.Need-returns-3
 returns-3 c =
     sym (valid-yes _ _ (no-partial-word _ _ (omega arith) (omega (arith, c .before .before .blocks-of .ensures)) (c .if3 .taken)))
 
-mul-stray : tie.Need-mul-stray
-mul-stray c = search needs
-
 shared-slice-read-stray : tie.Need-shared-slice-read-stray
 unfolding wordsOf
 shared-slice-read-stray c = omega (arith, c .before .before .before .blocks-of .ensures)
-
-low-mask-requires : tie.Need-low-mask-requires
-low-mask-requires c κs = search needs
 
 returns-4 : tie.Need-returns-4
 returns-4 c =
@@ -52,11 +41,11 @@ check-spec =
     tie.close
     (tie.spec
     returns
-    blocks-of-requires
+    (λ c κs. search needs)
     returns-2
     returns-3
-    mul-stray
+    (λ c. search needs)
     shared-slice-read-stray
-    low-mask-requires
+    (λ c κs. search needs)
     returns-4
     returns-5)

@@ -5,9 +5,6 @@ use native.Mathlib.Omega.{arith}
 use Rattle.sets.proofs.sizes.blocks_of.Statement.{statement}
 use Rattle.sets.proofs.sizes.blocks_of.Tie as tie
 
-add-result : tie.Need-add-result
-add-result c = search needs
-
 returns : tie.Need-returns
 unfolding wordsOf
 returns c = omega arith
@@ -17,4 +14,9 @@ unfolding wordsOf
 returns-2 c = omega arith
 
 pub blocks-of-spec : {M : Type 1} → statement M
-blocks-of-spec = tie.close (tie.spec add-result returns returns-2)
+blocks-of-spec =
+    tie.close
+    (tie.spec
+    (λ c. search needs)
+    returns
+    returns-2)

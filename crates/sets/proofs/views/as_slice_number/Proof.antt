@@ -3,11 +3,12 @@ use borrow.Author.Needs.{needs}
 use Rattle.sets.proofs.views.as_slice_number.Statement.{statement}
 use Rattle.sets.proofs.views.as_slice_number.Tie as tie
 
-check-requires : tie.Need-check-requires
-check-requires c κs = search needs
-
 returns : tie.Need-returns
 returns c = c .check .ensures
 
 pub as-slice-number-spec : {M : Type 1} → statement M
-as-slice-number-spec = tie.close (tie.spec check-requires returns)
+as-slice-number-spec =
+    tie.close
+    (tie.spec
+    (λ c κs. search needs)
+    returns)

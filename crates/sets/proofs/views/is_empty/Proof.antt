@@ -5,9 +5,6 @@ use borrow.Author.Needs.{needs}
 use Rattle.sets.proofs.views.is_empty.Statement.{statement}
 use Rattle.sets.proofs.views.is_empty.Tie as tie
 
-check-requires : tie.Need-check-requires
-check-requires c κs = search needs
-
 returns : tie.Need-returns
 returns c = given-no _ _ (c .before .check .ensures) (c .if1 .taken)
 
@@ -15,4 +12,9 @@ returns-2 : tie.Need-returns-2
 returns-2 c = given-yes _ (sym (c .before .if1 .left) ∙ c .before .before .check .ensures) refl
 
 pub is-empty-spec : {M : Type 1} → statement M
-is-empty-spec = tie.close (tie.spec check-requires returns returns-2)
+is-empty-spec =
+    tie.close
+    (tie.spec
+    (λ c κs. search needs)
+    returns
+    returns-2)

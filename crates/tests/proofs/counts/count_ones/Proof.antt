@@ -9,9 +9,6 @@ use borrow.Author.Needs.{needs}
 use Rattle.tests.proofs.counts.count_ones.Statement.{statement}
 use Rattle.tests.proofs.counts.count_ones.Tie as tie
 
-check-range-requires : tie.Need-check-range-requires
-check-range-requires c κs = search needs
-
 returns : tie.Need-returns
 returns c = given-no _ _ (c .before .check-range .ensures) (c .if1 .taken)
 
@@ -30,4 +27,10 @@ returns-2 c =
     (c .ones-of .ensures ∙ ones-is (a .set) (now (a .words)) (a .start) (a .end) (q .range)))
 
 pub count-ones-spec : {M : Type 1} → statement M
-count-ones-spec = tie.close (tie.spec check-range-requires returns ones-of-requires returns-2)
+count-ones-spec =
+    tie.close
+    (tie.spec
+    (λ c κs. search needs)
+    returns
+    ones-of-requires
+    returns-2)

@@ -12,9 +12,6 @@ use native.Mathlib.Omega.{arith}
 use Rattle.tests.proofs.counts.count_zeroes.Statement.{statement}
 use Rattle.tests.proofs.counts.count_zeroes.Tie as tie
 
-check-range-requires : tie.Need-check-range-requires
-check-range-requires c κs = search needs
-
 returns : tie.Need-returns
 returns c = given-no _ _ (c .before .check-range .ensures) (c .if1 .taken)
 
@@ -43,4 +40,10 @@ returns-2 c =
 
 pub count-zeroes-spec : {M : Type 1} → statement M
 count-zeroes-spec =
-    tie.close (tie.spec check-range-requires returns sub-t7 ones-of-requires sub-t9 returns-2)
+    tie.close (tie.spec
+    (λ c κs. search needs)
+    returns
+    sub-t7
+    ones-of-requires
+    sub-t9
+    returns-2)

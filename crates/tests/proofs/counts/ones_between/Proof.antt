@@ -21,27 +21,12 @@ abbrev μ-loop : tie.MeasureT-loop
 loop-holds : tie.Need-loop-holds Inv-loop μ-loop
 loop-holds c = (omega arith, omega arith, run-none (bitOf (now (c .before .args .words))) (c .before .args .first))
 
-mul-count-ones : tie.Need-mul-count-ones Inv-loop μ-loop
-mul-count-ones c = search needs
-
-shared-slice-read-count-ones : tie.Need-shared-slice-read-count-ones Inv-loop μ-loop
-shared-slice-read-count-ones c = search needs
-
-count-ones-requires : tie.Need-count-ones-requires Inv-loop μ-loop
-count-ones-requires c κs = search needs
-
 add-sum : tie.Need-add-sum Inv-loop μ-loop
 add-sum c =
     let inv = c .before .before .before .loop .inv in
     let a = c .before .before .before .before .before .args in
     let n = (c .before .before .before .loop .k - a .first) * 64 in
     omega (arith, inv .2, count-le n (λ j. bitOf (now (a .words)) (a .first * 64 + j)), c .count-ones .ensures, count-le 64 (digit (getD (now (a .words)) (c .before .before .before .loop .k) 0)))
-
-add-k : tie.Need-add-k Inv-loop μ-loop
-add-k c = search needs
-
-loop-less : tie.Need-loop-less Inv-loop μ-loop
-loop-less c = search needs
 
 loop-again : tie.Need-loop-again Inv-loop μ-loop
 loop-again c =
@@ -67,11 +52,11 @@ ones-between-spec =
     Inv-loop
     μ-loop
     loop-holds
-    mul-count-ones
-    shared-slice-read-count-ones
-    count-ones-requires
+    (λ c. search needs)
+    (λ c. search needs)
+    (λ c κs. search needs)
     add-sum
-    add-k
-    loop-less
+    (λ c. search needs)
+    (λ c. search needs)
     loop-again
     returns)

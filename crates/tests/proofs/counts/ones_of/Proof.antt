@@ -14,14 +14,8 @@ use native.Mathlib.Omega.{arith}
 use Rattle.tests.proofs.counts.ones_of.Statement.{statement}
 use Rattle.tests.proofs.counts.ones_of.Tie as tie
 
-new-requires : tie.Need-new-requires
-new-requires c κs = search needs
-
 returns : tie.Need-returns
 returns c = ones-empty _ _ _ (rw (c .before .before .new .ensures) at (c .if1 .taken))
-
-sub-last : tie.Need-sub-last
-sub-last c = search needs
 
 mul-count-ones : tie.Need-mul-count-ones
 mul-count-ones c = rw (c .before .before .before .new .ensures) (omega arith)
@@ -31,9 +25,6 @@ shared-slice-read-count-ones c =
     let met = c .before .before .before .before .new .ensures in
     let m = meets _ _ (rw met at (c .before .before .if1 .left)) in
     rw met (omega (arith, m .some))
-
-count-ones-requires : tie.Need-count-ones-requires
-count-ones-requires c κs = search needs
 
 returns-2 : tie.Need-returns-2
 returns-2 c =
@@ -82,9 +73,6 @@ shared-slice-read-count-ones-2 c =
     let m = meets _ _ (rw met at (c .before .before .before .before .before .before .before .if1 .left)) in
     rw met (omega (arith, m .tight))
 
-count-ones-requires-2 : tie.Need-count-ones-requires-2
-count-ones-requires-2 c κs = search needs
-
 whole : (c : tie.After-count-ones2) → c .before .before .before .before .before .count-ones .result + c .before .before .before .ones-between .result + c .count-ones2 .result
     ≡ count (c .before .before .before .before .before .before .before .before .before .before .before .before .before .args .end) (counted (c .before .before .before))
 whole c =
@@ -100,18 +88,18 @@ pub ones-of-spec : {M : Type 1} → statement M
 ones-of-spec =
     tie.close
     (tie.spec
-    new-requires
+    (λ c κs. search needs)
     returns
-    sub-last
+    (λ c. search needs)
     mul-count-ones
     shared-slice-read-count-ones
-    count-ones-requires
+    (λ c κs. search needs)
     returns-2
     add-ones-between
     ones-between-requires
     add-result
     mul-count-ones-2
     shared-slice-read-count-ones-2
-    count-ones-requires-2
+    (λ c κs. search needs)
     add-result-2
     returns-3)

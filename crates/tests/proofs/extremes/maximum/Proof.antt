@@ -17,14 +17,8 @@ use native.Mathlib.Omega.{arith}
 use Rattle.tests.proofs.extremes.maximum.Statement.{statement}
 use Rattle.tests.proofs.extremes.maximum.Tie as tie
 
-check-requires : tie.Need-check-requires
-check-requires c κs = search needs
-
 returns : tie.Need-returns
 returns c = given-no _ _ (c .before .check .ensures) (c .if1 .taken)
-
-blocks-of-requires : tie.Need-blocks-of-requires
-blocks-of-requires c κs = search needs
 
 -- the set passes the questions
 held : (c : tie.Else1) → Valid (c .before .before .before .args .set) (now (c .before .before .before .args .words))
@@ -49,17 +43,11 @@ inside c =
     let e = rw (c .before .before .blocks-of .ensures) at (c .before .above-last .ensures) in
     (omega (arith, e), omega (arith, e, words-hold (c .before .before .before .before .before .before .args .set .length), held (c .before .before .before) .small))
 
-sub-leading-zeros : tie.Need-sub-leading-zeros
-sub-leading-zeros c = search needs
-
 mul-leading-zeros : tie.Need-mul-leading-zeros
 mul-leading-zeros c = omega (arith, inside c)
 
 shared-slice-read-leading-zeros : tie.Need-shared-slice-read-leading-zeros
 shared-slice-read-leading-zeros c = omega (arith, inside (c .before), c .before .if2 .left, held (c .before .before .before .before) .enough)
-
-leading-zeros-requires : tie.Need-leading-zeros-requires
-leading-zeros-requires c κs = search needs
 
 -- and has a bit set
 low : (c : tie.After-leading-zeros) → c .leading-zeros .result < 64
@@ -97,15 +85,15 @@ pub maximum-spec : {M : Type 1} → statement M
 maximum-spec =
     tie.close
     (tie.spec
-    check-requires
+    (λ c κs. search needs)
     returns
-    blocks-of-requires
+    (λ c κs. search needs)
     above-last-requires
     returns-2
-    sub-leading-zeros
+    (λ c. search needs)
     mul-leading-zeros
     shared-slice-read-leading-zeros
-    leading-zeros-requires
+    (λ c κs. search needs)
     mul-t8
     sub-t10
     sub-t13

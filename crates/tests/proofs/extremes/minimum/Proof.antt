@@ -18,21 +18,12 @@ use native.Mathlib.Omega.{arith}
 use Rattle.tests.proofs.extremes.minimum.Statement.{statement}
 use Rattle.tests.proofs.extremes.minimum.Tie as tie
 
-check-requires : tie.Need-check-requires
-check-requires c κs = search needs
-
 returns : tie.Need-returns
 returns c = given-no _ _ (c .before .check .ensures) (c .if1 .taken)
-
-blocks-of-requires : tie.Need-blocks-of-requires
-blocks-of-requires c κs = search needs
 
 -- the set passes the questions
 held : (c : tie.Else1) → Valid (c .before .before .before .args .set) (now (c .before .before .before .args .words))
 held c = valid _ _ (sym (c .before .check .ensures) ∙ c .if1 .left)
-
-first-other-requires : tie.Need-first-other-requires
-first-other-requires c κs = search needs
 
 returns-2 : tie.Need-returns-2
 returns-2 c =
@@ -60,9 +51,6 @@ mul-trailing-zeros c = omega (arith, inside c)
 shared-slice-read-trailing-zeros : tie.Need-shared-slice-read-trailing-zeros
 shared-slice-read-trailing-zeros c = omega (arith, inside (c .before), held (c .before .before .before .before) .enough)
 
-trailing-zeros-requires : tie.Need-trailing-zeros-requires
-trailing-zeros-requires c κs = search needs
-
 add-t14 : tie.Need-add-t14
 add-t14 c = omega (arith, inside (c .before .before), c .trailing-zeros .ensures, below-le 64 (digit (getD (now (c .before .before .before .before .before .before .before .before .args .words)) (c .before .before .before .first-other .result) 0)))
 
@@ -84,14 +72,14 @@ pub minimum-spec : {M : Type 1} → statement M
 minimum-spec =
     tie.close
     (tie.spec
-    check-requires
+    (λ c κs. search needs)
     returns
-    blocks-of-requires
-    first-other-requires
+    (λ c κs. search needs)
+    (λ c κs. search needs)
     returns-2
     mul-t9
     mul-trailing-zeros
     shared-slice-read-trailing-zeros
-    trailing-zeros-requires
+    (λ c κs. search needs)
     add-t14
     returns-3)

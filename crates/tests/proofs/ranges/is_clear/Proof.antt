@@ -10,9 +10,6 @@ use borrow.Author.Needs.{needs}
 use Rattle.tests.proofs.ranges.is_clear.Statement.{statement}
 use Rattle.tests.proofs.ranges.is_clear.Tie as tie
 
-check-requires : tie.Need-check-requires
-check-requires c κs = search needs
-
 returns : tie.Need-returns
 returns c = given-no _ _ (c .before .check .ensures) (c .if1 .taken)
 
@@ -26,4 +23,10 @@ returns-2 c =
     (ap (λ (b : Bool). record { number = 0; yes = not b }) (c .some-other .ensures ∙ clear-is (a .set) (now (a .words))))
 
 pub is-clear-spec : {M : Type 1} → statement M
-is-clear-spec = tie.close (tie.spec check-requires returns some-other-requires returns-2)
+is-clear-spec =
+    tie.close
+    (tie.spec
+    (λ c κs. search needs)
+    returns
+    some-other-requires
+    returns-2)

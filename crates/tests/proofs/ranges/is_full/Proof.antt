@@ -11,9 +11,6 @@ use borrow.Author.Needs.{needs}
 use Rattle.tests.proofs.ranges.is_full.Statement.{statement}
 use Rattle.tests.proofs.ranges.is_full.Tie as tie
 
-check-requires : tie.Need-check-requires
-check-requires c κs = search needs
-
 returns : tie.Need-returns
 returns c = given-no _ _ (c .before .check .ensures) (c .if1 .taken)
 
@@ -28,4 +25,10 @@ returns-2 c =
     (ap not (c .some-other .ensures) ∙ all-is (a .set) (now (a .words)) 0 (a .set .length) (le-refl (a .set .length))))
 
 pub is-full-spec : {M : Type 1} → statement M
-is-full-spec = tie.close (tie.spec check-requires returns some-other-requires returns-2)
+is-full-spec =
+    tie.close
+    (tie.spec
+    (λ c κs. search needs)
+    returns
+    some-other-requires
+    returns-2)

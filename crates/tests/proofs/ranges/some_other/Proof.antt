@@ -12,9 +12,6 @@ use native.Mathlib.Omega.{arith}
 use Rattle.tests.proofs.ranges.some_other.Statement.{statement}
 use Rattle.tests.proofs.ranges.some_other.Tie as tie
 
-new-requires : tie.Need-new-requires
-new-requires c κs = search needs
-
 returns : tie.Need-returns
 returns c = sym (other-empty _ _ _ _ (rw (c .before .before .new .ensures) at (c .if1 .taken)))
 
@@ -33,19 +30,10 @@ returns-2 c =
     sym (other-at (a .start) (a .end) (a .skip) (now (a .words)) (c .before .before .before .before .before .before .before .fits .skip .fits) (a .start / 64) (c .before .before .shared-slice-known2 .given (a .start / 64) .fits)
     (rw (c .before .before .before .before .before .new .ensures) at (c .if2 .taken)))
 
-sub-last : tie.Need-sub-last
-sub-last c = search needs
-
 returns-3 : tie.Need-returns-3
 returns-3 c =
     let met = c .before .before .before .before .before .before .before .new .ensures in
     sym (other-one _ _ _ _ (rw met at (c .if3 .taken)) (rw met at (c .before .before .if2 .left)))
-
-add-first-other : tie.Need-add-first-other
-add-first-other c = search needs
-
-first-other-requires : tie.Need-first-other-requires
-first-other-requires c κs = search needs
 
 -- the search over the words between the first and the last ends in the slice
 between : (c : tie.After-first-other)
@@ -102,15 +90,15 @@ pub some-other-spec : {M : Type 1} → statement M
 some-other-spec =
     tie.close
     (tie.spec
-    new-requires
+    (λ c κs. search needs)
     returns
     mul-if2
     shared-slice-read-if2
     returns-2
-    sub-last
+    (λ c. search needs)
     returns-3
-    add-first-other
-    first-other-requires
+    (λ c. search needs)
+    (λ c κs. search needs)
     returns-4
     mul-result
     shared-slice-read-result

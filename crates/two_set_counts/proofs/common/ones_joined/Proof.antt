@@ -5,11 +5,9 @@ use Prim.Native.Nat.{ℕ, _≤_, _-_, _+_, _*_}
 use denote.Ref.{now}
 use lib.ListN.{getD}
 use Rattle.word_bits.specs.Counts.{count}
-use Rattle.word_bits.specs.Digits.{digit}
-use Rattle.word_bits.proofs.Ones.{count-le}
-use Rattle.blocks.specs.Operations.{maskedJoin}
-use Rattle.two_set_counts.specs.Helpers.{rowOf}
-use Rattle.two_set_counts.proofs.WordRows.{row-none, row-more}
+use Rattle.word_bits.specs.Digits.{digit, row}
+use Rattle.word_bits.proofs.Ones.{count-le, row-none, row-more}
+use Rattle.two_sets.specs.Operations.{maskedJoin}
 use borrow.Author.Needs.{needs}
 use native.Mathlib.Omega.{arith}
 use Rattle.two_set_counts.proofs.common.ones_joined.Statement.{statement}
@@ -20,7 +18,7 @@ abbrev word-at : ℕ → ℕ → ℕ → List ℕ → List ℕ → ℕ → ℕ
 word-at first second both ws vs k = maskedJoin first second both (getD ws k 0) (getD vs k 0)
 
 abbrev Inv-loop : tie.InvT-loop
-Inv-loop words other end first second both sum₀ k₀ sum k = (k ≤ end) × (sum ≡ count (k * 64) (rowOf (word-at first second both words other)))
+Inv-loop words other end first second both sum₀ k₀ sum k = (k ≤ end) × (sum ≡ count (k * 64) (row (word-at first second both words other)))
 
 abbrev μ-loop : tie.MeasureT-loop
 μ-loop words other end first second both sum₀ k₀ sum k = end - k
@@ -49,7 +47,7 @@ add-sum c =
     let a = c .before .before .before .before .before .before .before .args in
     let k = c .before .before .before .before .loop .k in
     let f = word-at (a .first) (a .second) (a .both) (now (a .words)) (now (a .other)) in
-    omega (arith, inv .1, count-le (k * 64) (rowOf f), c .count-ones .ensures, count-le 64 (digit (f k)))
+    omega (arith, inv .1, count-le (k * 64) (row f), c .count-ones .ensures, count-le 64 (digit (f k)))
 
 add-k : tie.Need-add-k Inv-loop μ-loop
 add-k c = search needs
@@ -70,7 +68,7 @@ returns c =
     let inv = c .before .loop .inv in
     let a = c .before .before .before .before .args in
     let e : c .before .loop .k ≡ a .end = omega arith in
-    inv .1 ∙ ap (λ (n : ℕ). count (n * 64) (rowOf (word-at (a .first) (a .second) (a .both) (now (a .words)) (now (a .other))))) e
+    inv .1 ∙ ap (λ (n : ℕ). count (n * 64) (row (word-at (a .first) (a .second) (a .both) (now (a .words)) (now (a .other))))) e
 
 pub ones-joined-spec : {M : Type 1} → statement M
 ones-joined-spec =

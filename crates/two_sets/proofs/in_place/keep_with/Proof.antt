@@ -6,7 +6,7 @@ use denote.Ref.{now}
 use Rattle.blocks.specs.Sweeps.{swept}
 use Rattle.sets.specs.Members.{read}
 use Rattle.two_sets.specs.Combined.{combined}
-use Rattle.blocks.specs.Operations.{joinedWord, padded}
+use Rattle.two_sets.specs.Operations.{joinedWord, padded}
 use Rattle.sets.specs.Questions.{bothQuestions}
 use Rattle.sets.proofs.QuestionLaws.{both-valid}
 use Rattle.sets.proofs.OutcomeLaws.{given-no, given-yes}
@@ -53,7 +53,7 @@ returns-2 c =
     (ap (λ (w : List ℕ). record { number = 0; set = a .a; words = w })
     (c .before .before .join-in-place .ensures
     ∙ ap₂ (λ (m n : ℕ). swept 0 m (λ k w. joinedWord (a .operation) (padded m ws k) (padded n vs k)) ws) (c .before .before .before .before .before .blocks-of .ensures) (c .before .before .before .blocks-of2 .ensures)
-    ∙ joined-write (a .operation) (a .a) ws (a .b) vs (v .one) (v .two) (a .a .length) ws (v .one .enough)))
+    ∙ joined-write (a .operation) (v .one) (v .two) (a .a .length) ws (v .one .enough)))
 
 pub keep-with-spec : {M : Type 1} → statement M
 keep-with-spec =

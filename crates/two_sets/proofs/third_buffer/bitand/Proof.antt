@@ -1,33 +1,19 @@
--- `third_buffers::bitand` meets its contract. Assumes nothing.
-use mathlib.Core.Path.{ap, _∙_}
-use Prim.Native.Nat.{ℕ}
-use denote.Ref.{now}
+-- `two_sets::bitand` meets its contract. Assumes nothing.
 use Rattle.sets.specs.Members.{read}
-use Rattle.two_sets.specs.Combined.{combined}
-use Rattle.two_sets.specs.Rules.{thirdBuffer}
-use Rattle.blocks.specs.declared.operation.Operation.the-variants.{Intersection}
 use borrow.Author.Needs.{needs}
 use native.Mathlib.Omega.{arith}
 use Rattle.two_sets.proofs.third_buffer.bitand.Statement.{statement}
 use Rattle.two_sets.proofs.third_buffer.bitand.Tie as tie
 
-lesser-requires : tie.Need-lesser-requires
-lesser-requires c κs = search needs
-
-join-third-requires : tie.Need-join-third-requires
-join-third-requires c κs = omega (arith, c .lesser .ensures)
-
-same-length : tie.Need-same-length
-same-length c = search needs
-
 returns : tie.Need-returns
 unfolding read
-returns c =
-    let a = c .before .before .before .before .before .before .before .before .args in
-    let ws = now (a .words) in
-    let vs = now (a .other) in
-    c .before .before .join-third .ensures
-    ∙ ap (λ (n : ℕ). thirdBuffer (a .a) ws (a .b) vs n (now (a .out)) (combined Intersection n (read ws (a .a)) (read vs (a .b)))) (c .before .before .before .lesser .ensures)
+returns c = rw (c .before .before .before .lesser .ensures) at (c .before .before .join-third .ensures)
 
 pub bitand-spec : {M : Type 1} → statement M
-bitand-spec = tie.close (tie.spec lesser-requires join-third-requires same-length returns)
+bitand-spec =
+    tie.close
+    (tie.spec
+    (λ c κs. search needs)
+    (λ c κs. omega (arith, c .lesser .ensures))
+    (λ c. search needs)
+    returns)

@@ -16,20 +16,8 @@ use Rattle.walkers.proofs.steps.step_from.Tie as tie
 at-end : (ws : List ℕ) (part : Part) {e k : End} {set set′ : FixedBitSet} {r : Stepped} → e ≡ k → set ≡ set′ → r ≡ walkerRule set ws part k → r ≡ walkerRule set′ ws part e
 at-end ws part told made took = took ∙ (λ i. walkerRule (made i) ws part (sym told i))
 
-new-requires : tie.Need-new-requires
-new-requires c κs = search needs
-
 enum-told : tie.Need-enum-told
 enum-told c = search needs
-
-ones-next-requires : tie.Need-ones-next-requires
-ones-next-requires c κs = search needs
-
-enum-told-2 : tie.Need-enum-told-2
-enum-told-2 c = search needs
-
-ones-next-back-requires : tie.Need-ones-next-back-requires
-ones-next-back-requires c κs = search needs
 
 returns : tie.Need-returns
 returns c =
@@ -42,4 +30,13 @@ returns-2 c =
     at-end (now (a .words)) (record { low = a .low; high = a .high }) (c .before .enum-told2 .given .1) (c .before .before .before .new .ensures) (c .ones-next-back .ensures)
 
 pub step-from-spec : {M : Type 1} → statement M
-step-from-spec = tie.close (tie.spec new-requires enum-told ones-next-requires enum-told-2 ones-next-back-requires returns returns-2)
+step-from-spec =
+    tie.close
+    (tie.spec
+    (λ c κs. search needs)
+    enum-told
+    (λ c κs. search needs)
+    (λ c. search needs)
+    (λ c κs. search needs)
+    returns
+    returns-2)

@@ -1,7 +1,6 @@
 -- `walks::one_step` meets its contract. Assumes nothing.
 use mathlib.Core.Path.{sym, ap, _∙_}
 use mathlib.Core.Bool.{Bool}
-use Prim.Native.Nat.{ℕ}
 use denote.Ref.{now}
 use Rattle.sets.specs.Members.{bitOf, read}
 use Rattle.sets.specs.Questions.{questions, partQuestion}
@@ -17,14 +16,8 @@ use native.Mathlib.Omega.{arith}
 use Rattle.walks.proofs.one_set.one_step.Statement.{statement}
 use Rattle.walks.proofs.one_set.one_step.Tie as tie
 
-check-part-requires : tie.Need-check-part-requires
-check-part-requires c κs = search needs
-
 returns : tie.Need-returns
 returns c = given-no (λ m. record { number = m; at = _; part = _ }) _ (c .before .check-part .ensures) (c .if1 .taken)
-
-step-selected-requires : tie.Need-step-selected-requires
-step-selected-requires c κs = search needs
 
 returns-2 : tie.Need-returns-2
 returns-2 c =
@@ -39,4 +32,10 @@ returns-2 c =
     (λ p l h. ap (λ (b : Bool). selected (a .selection) b b) (sym (read-below ws (a .set) p (omega (arith, high))))) (a .end)))
 
 pub one-step-spec : {M : Type 1} → statement M
-one-step-spec = tie.close (tie.spec check-part-requires returns step-selected-requires returns-2)
+one-step-spec =
+    tie.close
+    (tie.spec
+    (λ c κs. search needs)
+    returns
+    (λ c κs. search needs)
+    returns-2)

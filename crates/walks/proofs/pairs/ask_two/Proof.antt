@@ -5,17 +5,17 @@ use borrow.Author.Needs.{needs}
 use Rattle.walks.proofs.pairs.ask_two.Statement.{statement}
 use Rattle.walks.proofs.pairs.ask_two.Tie as tie
 
-check-both-requires : tie.Need-check-both-requires
-check-both-requires c κs = search needs
-
 returns : tie.Need-returns
 returns c = first-no _ (c .before .check-both .ensures) (c .if1 .taken)
-
-ask-part-requires : tie.Need-ask-part-requires
-ask-part-requires c κs = search needs
 
 returns-2 : tie.Need-returns-2
 returns-2 c = first-yes (sym (c .before .before .check-both .ensures) ∙ c .before .if1 .left) (c .ask-part .ensures)
 
 pub ask-two-spec : {M : Type 1} → statement M
-ask-two-spec = tie.close (tie.spec check-both-requires returns ask-part-requires returns-2)
+ask-two-spec =
+    tie.close
+    (tie.spec
+    (λ c κs. search needs)
+    returns
+    (λ c κs. search needs)
+    returns-2)

@@ -5,20 +5,11 @@ use borrow.Author.Needs.{needs}
 use Rattle.walks.proofs.two_parts.ask_parts.Statement.{statement}
 use Rattle.walks.proofs.two_parts.ask_parts.Tie as tie
 
-check-both-requires : tie.Need-check-both-requires
-check-both-requires c κs = search needs
-
 returns : tie.Need-returns
 returns c = first-no _ (c .before .check-both .ensures) (c .if1 .taken)
 
-ask-part-requires : tie.Need-ask-part-requires
-ask-part-requires c κs = search needs
-
 returns-2 : tie.Need-returns-2
 returns-2 c = first-yes (sym (c .before .before .before .check-both .ensures) ∙ c .before .before .if1 .left) (first-no _ (c .before .ask-part .ensures) (c .if2 .taken))
-
-ask-part-requires-2 : tie.Need-ask-part-requires-2
-ask-part-requires-2 c κs = search needs
 
 returns-3 : tie.Need-returns-3
 returns-3 c = first-yes (sym (c .before .before .before .before .check-both .ensures) ∙ c .before .before .before .if1 .left) (first-yes (sym (c .before .before .ask-part .ensures) ∙ c .before .if2 .left) (c .ask-part2 .ensures))
@@ -27,9 +18,9 @@ pub ask-parts-spec : {M : Type 1} → statement M
 ask-parts-spec =
     tie.close
     (tie.spec
-    check-both-requires
+    (λ c κs. search needs)
     returns
-    ask-part-requires
+    (λ c κs. search needs)
     returns-2
-    ask-part-requires-2
+    (λ c κs. search needs)
     returns-3)

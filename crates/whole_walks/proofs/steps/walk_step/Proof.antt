@@ -7,96 +7,6 @@ use Rattle.whole_walks.proofs.steps.walk_step.Tie as tie
 enum-told : tie.Need-enum-told
 enum-told c = search needs
 
-enum-told-2 : tie.Need-enum-told-2
-enum-told-2 c = search needs
-
-ones-next-requires : tie.Need-ones-next-requires
-ones-next-requires c κs = search needs
-
-with-second-requires : tie.Need-with-second-requires
-with-second-requires c κs = search needs
-
-enum-told-3 : tie.Need-enum-told-3
-enum-told-3 c = search needs
-
-ones-next-back-requires : tie.Need-ones-next-back-requires
-ones-next-back-requires c κs = search needs
-
-with-second-requires-2 : tie.Need-with-second-requires-2
-with-second-requires-2 c κs = search needs
-
-enum-told-4 : tie.Need-enum-told-4
-enum-told-4 c = search needs
-
-enum-told-5 : tie.Need-enum-told-5
-enum-told-5 c = search needs
-
-intersection-next-requires : tie.Need-intersection-next-requires
-intersection-next-requires c κs = search needs
-
-with-second-requires-3 : tie.Need-with-second-requires-3
-with-second-requires-3 c κs = search needs
-
-enum-told-6 : tie.Need-enum-told-6
-enum-told-6 c = search needs
-
-intersection-next-back-requires : tie.Need-intersection-next-back-requires
-intersection-next-back-requires c κs = search needs
-
-with-second-requires-4 : tie.Need-with-second-requires-4
-with-second-requires-4 c κs = search needs
-
-enum-told-7 : tie.Need-enum-told-7
-enum-told-7 c = search needs
-
-enum-told-8 : tie.Need-enum-told-8
-enum-told-8 c = search needs
-
-difference-next-requires : tie.Need-difference-next-requires
-difference-next-requires c κs = search needs
-
-with-second-requires-5 : tie.Need-with-second-requires-5
-with-second-requires-5 c κs = search needs
-
-enum-told-9 : tie.Need-enum-told-9
-enum-told-9 c = search needs
-
-difference-next-back-requires : tie.Need-difference-next-back-requires
-difference-next-back-requires c κs = search needs
-
-with-second-requires-6 : tie.Need-with-second-requires-6
-with-second-requires-6 c κs = search needs
-
-enum-told-10 : tie.Need-enum-told-10
-enum-told-10 c = search needs
-
-enum-told-11 : tie.Need-enum-told-11
-enum-told-11 c = search needs
-
-union-next-requires : tie.Need-union-next-requires
-union-next-requires c κs = search needs
-
-enum-told-12 : tie.Need-enum-told-12
-enum-told-12 c = search needs
-
-union-next-back-requires : tie.Need-union-next-back-requires
-union-next-back-requires c κs = search needs
-
-enum-told-13 : tie.Need-enum-told-13
-enum-told-13 c = search needs
-
-enum-told-14 : tie.Need-enum-told-14
-enum-told-14 c = search needs
-
-symmetric-difference-next-requires : tie.Need-symmetric-difference-next-requires
-symmetric-difference-next-requires c κs = search needs
-
-enum-told-15 : tie.Need-enum-told-15
-enum-told-15 c = search needs
-
-symmetric-difference-next-back-requires : tie.Need-symmetric-difference-next-back-requires
-symmetric-difference-next-back-requires c κs = search needs
-
 returns : tie.Need-returns
 returns c = rw (c .before .before .before .before .enum-told .given .1, c .before .before .enum-told2 .given .1) (alone-of (c .with-second .ensures) (c .before .ones-next .ensures))
 
@@ -132,36 +42,36 @@ walk-step-spec =
     tie.close
     (tie.spec
     enum-told
-    enum-told-2
-    ones-next-requires
-    with-second-requires
-    enum-told-3
-    ones-next-back-requires
-    with-second-requires-2
-    enum-told-4
-    enum-told-5
-    intersection-next-requires
-    with-second-requires-3
-    enum-told-6
-    intersection-next-back-requires
-    with-second-requires-4
-    enum-told-7
-    enum-told-8
-    difference-next-requires
-    with-second-requires-5
-    enum-told-9
-    difference-next-back-requires
-    with-second-requires-6
-    enum-told-10
-    enum-told-11
-    union-next-requires
-    enum-told-12
-    union-next-back-requires
-    enum-told-13
-    enum-told-14
-    symmetric-difference-next-requires
-    enum-told-15
-    symmetric-difference-next-back-requires
+    (λ c. search needs)
+    (λ c κs. search needs)
+    (λ c κs. search needs)
+    (λ c. search needs)
+    (λ c κs. search needs)
+    (λ c κs. search needs)
+    (λ c. search needs)
+    (λ c. search needs)
+    (λ c κs. search needs)
+    (λ c κs. search needs)
+    (λ c. search needs)
+    (λ c κs. search needs)
+    (λ c κs. search needs)
+    (λ c. search needs)
+    (λ c. search needs)
+    (λ c κs. search needs)
+    (λ c κs. search needs)
+    (λ c. search needs)
+    (λ c κs. search needs)
+    (λ c κs. search needs)
+    (λ c. search needs)
+    (λ c. search needs)
+    (λ c κs. search needs)
+    (λ c. search needs)
+    (λ c κs. search needs)
+    (λ c. search needs)
+    (λ c. search needs)
+    (λ c κs. search needs)
+    (λ c. search needs)
+    (λ c κs. search needs)
     returns
     returns-2
     returns-3

@@ -6,33 +6,6 @@ use Rattle.whole_walks.proofs.walk_counts.walk_count.Tie as tie
 enum-told : tie.Need-enum-told
 enum-told c = search needs
 
-count-ones-requires : tie.Need-count-ones-requires
-count-ones-requires c κs = search needs
-
-enum-told-2 : tie.Need-enum-told-2
-enum-told-2 c = search needs
-
-intersection-count-requires : tie.Need-intersection-count-requires
-intersection-count-requires c κs = search needs
-
-enum-told-3 : tie.Need-enum-told-3
-enum-told-3 c = search needs
-
-difference-count-requires : tie.Need-difference-count-requires
-difference-count-requires c κs = search needs
-
-enum-told-4 : tie.Need-enum-told-4
-enum-told-4 c = search needs
-
-union-count-requires : tie.Need-union-count-requires
-union-count-requires c κs = search needs
-
-enum-told-5 : tie.Need-enum-told-5
-enum-told-5 c = search needs
-
-symmetric-difference-count-requires : tie.Need-symmetric-difference-count-requires
-symmetric-difference-count-requires c κs = search needs
-
 returns : tie.Need-returns
 returns c = rw (c .before .enum-told .given .1) (c .count-ones .ensures)
 
@@ -53,15 +26,15 @@ walk-count-spec =
     tie.close
     (tie.spec
     enum-told
-    count-ones-requires
-    enum-told-2
-    intersection-count-requires
-    enum-told-3
-    difference-count-requires
-    enum-told-4
-    union-count-requires
-    enum-told-5
-    symmetric-difference-count-requires
+    (λ c κs. search needs)
+    (λ c. search needs)
+    (λ c κs. search needs)
+    (λ c. search needs)
+    (λ c κs. search needs)
+    (λ c. search needs)
+    (λ c κs. search needs)
+    (λ c. search needs)
+    (λ c κs. search needs)
     returns
     returns-2
     returns-3

@@ -13,26 +13,8 @@ Inv-loop a words b other walk steps out₀ one₀ two₀ k₀ out one two k = An
 abbrev μ-loop : tie.MeasureT-loop
 μ-loop a words b other walk steps out₀ one₀ two₀ k₀ out one two k = length steps - k
 
-first-part-requires : tie.Need-first-part-requires Inv-loop μ-loop
-first-part-requires c κs = search needs
-
-first-part-requires-2 : tie.Need-first-part-requires-2 Inv-loop μ-loop
-first-part-requires-2 c κs = search needs
-
 loop-holds : tie.Need-loop-holds Inv-loop μ-loop
 loop-holds c = answered-none _ _ _ _ _ _ _ (c .before .first-part .ensures) (c .first-part2 .ensures)
-
-mul-end-of : tie.Need-mul-end-of Inv-loop μ-loop
-mul-end-of c = search needs
-
-shared-slice-read-end-of : tie.Need-shared-slice-read-end-of Inv-loop μ-loop
-shared-slice-read-end-of c = search needs
-
-end-of-requires : tie.Need-end-of-requires Inv-loop μ-loop
-end-of-requires c κs = search needs
-
-walk-step-requires : tie.Need-walk-step-requires Inv-loop μ-loop
-walk-step-requires c κs = search needs
 
 same-length : tie.Need-same-length Inv-loop μ-loop
 same-length c = c .before .before .before .before .before .before .loop .inv .same
@@ -41,9 +23,6 @@ returns : tie.Need-returns Inv-loop μ-loop
 returns c =
     let start = c .before .before .before .before .before .before .before .before .before .before .before .before .before in
     absurd (c .if1 .taken (number-zero _ _ _ _ _ _ _ (c .before .before .before .before .before .before .loop .inv) (start .pre .0) _ (c .before .before .walk-step .ensures)))
-
-answer-word-requires : tie.Need-answer-word-requires Inv-loop μ-loop
-answer-word-requires c κs = search needs
 
 -- the place of the answer is in the buffer
 inside : (c : tie.After-answer-word Inv-loop μ-loop) → let at = c .before .before .before .before .before .before .before .before .before .loop in
@@ -62,9 +41,6 @@ slice-write-out c = let i = inside c in omega arith
 
 add-k : tie.Need-add-k Inv-loop μ-loop
 add-k c = let i = inside c in omega arith
-
-loop-less : tie.Need-loop-less Inv-loop μ-loop
-loop-less c = search needs
 
 loop-again : tie.Need-loop-again Inv-loop μ-loop
 loop-again c =
@@ -85,20 +61,20 @@ take-steps-spec =
     (tie.spec
     Inv-loop
     μ-loop
-    first-part-requires
-    first-part-requires-2
+    (λ c κs. search needs)
+    (λ c κs. search needs)
     loop-holds
-    mul-end-of
-    shared-slice-read-end-of
-    end-of-requires
-    walk-step-requires
+    (λ c. search needs)
+    (λ c. search needs)
+    (λ c κs. search needs)
+    (λ c κs. search needs)
     same-length
     returns
-    answer-word-requires
+    (λ c κs. search needs)
     mul-out
     slice-write-out
     add-k
-    loop-less
+    (λ c. search needs)
     loop-again
     same-length-2
     returns-2)

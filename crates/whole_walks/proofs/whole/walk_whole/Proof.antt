@@ -13,9 +13,6 @@ use borrow.Author.Needs.{needs}
 use Rattle.whole_walks.proofs.whole.walk_whole.Statement.{statement}
 use Rattle.whole_walks.proofs.whole.walk_whole.Tie as tie
 
-check-both-requires : tie.Need-check-both-requires
-check-both-requires c κs = search needs
-
 returns : tie.Need-returns
 returns c = given-no (λ m. record { number = m; count = 0; out = _ }) _ (first-no _ (c .before .check-both .ensures) (c .if1 .taken)) (c .if1 .taken)
 
@@ -24,20 +21,8 @@ returns-2 c =
     given-no (λ m. record { number = m; count = 0; out = _ }) _
     (first-yes (sym (c .before .before .check-both .ensures) ∙ c .before .if1 .left) (sym (answers-no _ _ (c .if2 .taken)))) (λ z. omega arith)
 
-take-steps-requires : tie.Need-take-steps-requires
-take-steps-requires c κs = search needs
-
-same-length : tie.Need-same-length
-same-length c = search needs
-
 returns-3 : tie.Need-returns-3
 returns-3 c = absurd (c .if3 .taken (c .before .before .before .take-steps .ensures .0))
-
-walk-count-requires : tie.Need-walk-count-requires
-walk-count-requires c κs = search needs
-
-same-length-2 : tie.Need-same-length-2
-same-length-2 c = search needs
 
 returns-4 : tie.Need-returns-4
 returns-4 c =
@@ -51,12 +36,12 @@ pub walk-whole-spec : {M : Type 1} → statement M
 walk-whole-spec =
     tie.close
     (tie.spec
-    check-both-requires
+    (λ c κs. search needs)
     returns
     returns-2
-    take-steps-requires
-    same-length
+    (λ c κs. search needs)
+    (λ c. search needs)
     returns-3
-    walk-count-requires
-    same-length-2
+    (λ c κs. search needs)
+    (λ c. search needs)
     returns-4)

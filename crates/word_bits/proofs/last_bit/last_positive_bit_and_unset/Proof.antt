@@ -8,22 +8,12 @@ use lib.Bits.{bitAnd}
 use Rattle.word_bits.specs.Digits.{digit}
 use Rattle.word_bits.specs.Counts.{zerosBelow}
 use Rattle.word_bits.specs.LastBit.{unset}
-use Rattle.word_bits.specs.declared.last_bit.LastBit.{LastBit}
 use Rattle.word_bits.proofs.LowestBit.{negation-position, and-less}
 use Rattle.word_bits.proofs.last_bit.last_positive_bit_and_unset.Statement.{statement}
 use Rattle.word_bits.proofs.last_bit.last_positive_bit_and_unset.Tie as tie
 
 returns : tie.Need-returns
 returns c = rw (eq-eqb _ 0 (c .if1 .taken))
-
-wrapping-sub-u64-requires : tie.Need-wrapping-sub-u64-requires
-wrapping-sub-u64-requires c κs = search needs
-
-trailing-zeros-requires : tie.Need-trailing-zeros-requires
-trailing-zeros-requires c κs = search needs
-
-sub-t4 : tie.Need-sub-t4
-sub-t4 c = search needs
 
 returns-2 : tie.Need-returns-2
 unfolding unset
@@ -39,4 +29,9 @@ returns-2 c =
 
 pub last-positive-bit-and-unset-spec : {M : Type 1} → statement M
 last-positive-bit-and-unset-spec =
-    tie.close (tie.spec returns wrapping-sub-u64-requires trailing-zeros-requires sub-t4 returns-2)
+    tie.close (tie.spec
+    returns
+    (λ c κs. search needs)
+    (λ c κs. search needs)
+    (λ c. search needs)
+    returns-2)

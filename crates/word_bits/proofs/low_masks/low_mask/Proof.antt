@@ -9,15 +9,6 @@ use Rattle.word_bits.proofs.Tabulate.{entry}
 use Rattle.word_bits.proofs.low_masks.low_mask.Statement.{statement}
 use Rattle.word_bits.proofs.low_masks.low_mask.Tie as tie
 
-mul-result : tie.Need-mul-result
-mul-result c = search needs
-
-array-read-result : tie.Need-array-read-result
-array-read-result c = search needs
-
-array-read-result-2 : tie.Need-array-read-result-2
-array-read-result-2 c = search needs
-
 returns : tie.Need-returns
 unfolding lowMask number
 returns c = entry lowMask 65 (c .before .args .r) (omega arith)
@@ -28,4 +19,9 @@ returns-2 c = sym (low-mask-full (c .before .args .r) (omega arith))
 
 pub low-mask-spec : {M : Type 1} → statement M
 low-mask-spec =
-    tie.close (tie.spec mul-result array-read-result array-read-result-2 returns returns-2)
+    tie.close (tie.spec
+    (λ c. search needs)
+    (λ c. search needs)
+    (λ c. search needs)
+    returns
+    returns-2)

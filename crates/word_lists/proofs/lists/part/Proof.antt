@@ -10,26 +10,11 @@ use borrow.Author.Needs.{needs}
 use Rattle.word_lists.proofs.lists.part.Statement.{statement}
 use Rattle.word_lists.proofs.lists.part.Tie as tie
 
-slice-aggregate-result : tie.Need-slice-aggregate-result
-slice-aggregate-result c = search needs
-
 returns : tie.Need-returns
 returns c = rw (lt-leb (c .before .before .args .start) (c .before .before .args .end) (c .before .if1 .taken)) refl
 
-slice-aggregate-result-2 : tie.Need-slice-aggregate-result-2
-slice-aggregate-result-2 c = search needs
-
 returns-2 : tie.Need-returns-2
 returns-2 c = rw (lt-leb (c .before .before .before .args .end) (length (now (c .before .before .before .args .numbers))) (c .before .if2 .taken), and-false (leb (c .before .before .before .args .start) (c .before .before .before .args .end))) refl
-
-mul-result : tie.Need-mul-result
-mul-result c = search needs
-
-part-result-start : tie.Need-part-result-start
-part-result-start c = search needs
-
-part-result-end : tie.Need-part-result-end
-part-result-end c = search needs
 
 returns-3 : tie.Need-returns-3
 returns-3 c = rw (le-leb (c .before .before .before .args .start) (c .before .before .before .args .end) (omega arith), le-leb (c .before .before .before .args .end) (length (now (c .before .before .before .args .numbers))) (omega arith)) refl
@@ -38,11 +23,11 @@ pub part-spec : {M : Type 1} → statement M
 part-spec =
     tie.close
     (tie.spec
-    slice-aggregate-result
+    (λ c. search needs)
     returns
-    slice-aggregate-result-2
+    (λ c. search needs)
     returns-2
-    mul-result
-    part-result-start
-    part-result-end
+    (λ c. search needs)
+    (λ c. search needs)
+    (λ c. search needs)
     returns-3)

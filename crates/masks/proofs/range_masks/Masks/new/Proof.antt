@@ -15,18 +15,6 @@ returns c =
     let e = c .before .args .end in
     rw (mask-empty s e (s / 64) (c .if1 .taken), mask-empty s e (endBlock s e - 1) (c .if1 .taken), end-block-empty s e (c .if1 .taken))
 
-sub-last : tie.Need-sub-last
-sub-last c = search needs
-
-add-t6 : tie.Need-add-t6
-add-t6 c = search needs
-
-range-mask-requires : tie.Need-range-mask-requires
-range-mask-requires c κs = search needs
-
-range-mask-requires-2 : tie.Need-range-mask-requires-2
-range-mask-requires-2 c κs = search needs
-
 returns-2 : tie.Need-returns-2
 returns-2 c =
     let s = c .before .before .before .args .start in
@@ -37,4 +25,10 @@ returns-2 c =
 pub new-spec : {M : Type 1} → statement M
 new-spec =
     tie.close
-    (tie.spec returns sub-last add-t6 range-mask-requires range-mask-requires-2 returns-2)
+    (tie.spec
+    returns
+    (λ c. search needs)
+    (λ c. search needs)
+    (λ c κs. search needs)
+    (λ c κs. search needs)
+    returns-2)
