@@ -106,7 +106,7 @@ fn of_sets(case: &mut Case) -> Outcome {
             Call::IsEmpty => told(fbs_is_empty(s, r, n)),
             Call::AsSlice => {
                 let slice = fbs_as_slice(s, r, n);
-                Outcome { number: fbs_as_slice_number(s, r, n), answer: Answer::part(false, slice.offset, slice.count) }
+                Outcome { number: fbs_as_slice_number(s, r, n), answer: Answer::Part { second: false, offset: slice.offset, count: slice.count } }
             }
             Call::Contains(p) => told(fbs_contains(s, r, n, p)),
             Call::ContainsAllInRange(start, end) => told(fbs_contains_all_in_range(s, r, n, start, end)),
@@ -135,7 +135,7 @@ fn of_sets(case: &mut Case) -> Outcome {
             Call::Longer => {
                 let longer = fbs_longer(s, r, n, t, v, m);
                 let number = fbs_longer_number(s, r, n, t, v, m);
-                Outcome { number, answer: Answer::part(longer.second, longer.offset, longer.count) }
+                Outcome { number, answer: Answer::Part { second: longer.second, offset: longer.offset, count: longer.count } }
             }
             Call::FirstPart => accepted(Answer::Record(record(fbs_first_part(s)))),
             Call::Step { walk, back, one, two } => step(walk, back, &mut case.a, &mut case.b, one, two),

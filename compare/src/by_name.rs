@@ -13,7 +13,7 @@ macro_rules! ask_by_name {
             Some(match call {
                 Call::Len => accepted(Answer::Count(set.len())),
                 Call::IsEmpty => accepted(Answer::Yes(set.is_empty())),
-                Call::AsSlice => accepted(Answer::part(false, 0, set.as_slice().len())),
+                Call::AsSlice => accepted(Answer::Part { second: false, offset: 0, count: set.as_slice().len() }),
                 Call::Contains(p) => accepted(Answer::Yes(set.contains(p))),
                 Call::ContainsAllInRange(start, end) => ranged(|| set.contains_all_in_range(start..end), Answer::Yes),
                 Call::ContainsAnyInRange(start, end) => ranged(|| set.contains_any_in_range(start..end), Answer::Yes),

@@ -238,7 +238,7 @@ pub enum Answer {
     /// 0 equal, 1 below, 2 above.
     Order(u64),
     Found(Option<usize>),
-    /// A part of the first slice or of the second. An empty part is of neither.
+    /// A part of the first slice or of the second, an empty one too.
     Part {
         second: bool,
         offset: usize,
@@ -261,18 +261,6 @@ pub enum Answer {
         last_mask: u64,
     },
     Word(u64),
-}
-
-impl Answer {
-    pub const EMPTY_PART: Answer = Answer::Part { second: false, offset: 0, count: 0 };
-
-    pub fn part(second: bool, offset: usize, count: usize) -> Answer {
-        if count == 0 {
-            Answer::EMPTY_PART
-        } else {
-            Answer::Part { second, offset, count }
-        }
-    }
 }
 
 /// The number, 0 for an accepted call, and the answer. The buffers after the call are in the case.

@@ -85,7 +85,7 @@ fn of_one(case: &Case) -> Outcome {
     let answer = match case.call {
         Call::Len => Answer::Count(members.len()),
         Call::IsEmpty => Answer::Yes(yes && members.is_empty()),
-        Call::AsSlice => Answer::part(false, 0, words_of(members.len())),
+        Call::AsSlice => Answer::Part { second: false, offset: 0, count: words_of(members.len()) },
         Call::Contains(p) => Answer::Yes(has(&members, p)),
         Call::ContainsAllInRange(..) | Call::IsFull => Answer::Yes(yes && (start..end).all(|p| has(&members, p))),
         Call::ContainsAnyInRange(..) => Answer::Yes((start..end).any(|p| has(&members, p))),
@@ -115,8 +115,8 @@ fn of_two(case: &Case) -> Outcome {
         Call::IsSuperset => Answer::Yes(yes && (0..b.len()).all(|p| !has(&b, p) || has(&a, p))),
         Call::Eq => Answer::Yes(yes && a == b),
         Call::Cmp => Answer::Order(order(&a, &b)),
-        Call::Longer if a.len() > b.len() => Answer::part(false, 0, words_of(a.len())),
-        Call::Longer => Answer::part(true, 0, words_of(b.len())),
+        Call::Longer if !yes || a.len() > b.len() => Answer::Part { second: false, offset: 0, count: words_of(a.len()) },
+        Call::Longer => Answer::Part { second: true, offset: 0, count: words_of(b.len()) },
         _ => unreachable!("a call of two sets"),
     };
     Outcome { number, answer }

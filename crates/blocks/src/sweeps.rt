@@ -5,7 +5,7 @@ ghost use lib.Bits.{bitAnd, bitXor};
 ghost use lib.ListN.{length, getD};
 ghost use Rattle.blocks.specs.Sweeps.{swept};
 
-// Word k of a slice, 0 past its end.
+// Word k of a slice, 0 past its end. Asks nothing: nothing is refused.
 pub fn block(words: &[u64], k: usize) -> u64
     ensures { λ r. ⌜ r ≡ getD (now (words .entry)) k 0 ⌝ }
 {

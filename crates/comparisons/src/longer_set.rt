@@ -6,7 +6,7 @@ ghost use Rattle.sets.specs.Questions.{bothQuestions};
 ghost use Rattle.sets.specs.Rules.{slicePart};
 ghost use Rattle.comparisons.specs.Rules.{longerRule};
 
-// The words of the longer set, as a part of its own slice: the second's for equal lengths.
+// The words of the longer set, as a part of its own slice: the second's for equal lengths. Asks 1 to 3 of both sets.
 pub fn longer<'a>(a: FixedBitSet, words: &'a [u64], b: FixedBitSet, other: &'a [u64]) -> &'a [u64]
     ensures { λ r. ⌜ slicePart r ≡ longerRule a (words .entry) b (other .entry) ⌝ }
 {
@@ -20,7 +20,7 @@ pub fn longer<'a>(a: FixedBitSet, words: &'a [u64], b: FixedBitSet, other: &'a [
     }
 }
 
-// The number of `longer` on the same inputs.
+// The number of `longer` on the same inputs: 1 to 3 of both sets.
 pub fn longer_number(a: FixedBitSet, words: &[u64], b: FixedBitSet, other: &[u64]) -> u64
     ensures { λ r. ⌜ r ≡ bothQuestions a (now (words .entry)) b (now (other .entry)) ⌝ }
 {

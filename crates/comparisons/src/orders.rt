@@ -11,7 +11,7 @@ ghost use Rattle.sets.specs.Questions.{questions};
 ghost use Rattle.comparisons.specs.Orders.{equal, wordsOrder, order};
 ghost use Rattle.comparisons.specs.Rules.{eqRule, cmpRule};
 
-// The order is 0 for equal, 1 for below, 2 for above: 0 where refused.
+// The order is 0 for equal, 1 for below, 2 for above, and 0 where refused.
 #[repr(C)]
 pub struct Compared {
     pub number: u64,
@@ -56,7 +56,7 @@ fn order_of(a: FixedBitSet, words: &[u64], b: FixedBitSet, other: &[u64]) -> u64
     words_order(words, other, blocks_of(a.length))
 }
 
-// Whether the two sets have the same length and the same members.
+// Whether the two sets have the same length and the same members. Asks 1 to 3 of both sets.
 pub fn eq(a: FixedBitSet, words: &[u64], b: FixedBitSet, other: &[u64]) -> Told
     ensures { λ r. ⌜ r ≡ eqRule a (now (words .entry)) b (now (other .entry)) ⌝ }
 {
@@ -70,7 +70,7 @@ pub fn eq(a: FixedBitSet, words: &[u64], b: FixedBitSet, other: &[u64]) -> Told
     }
 }
 
-// The order of the two sets.
+// The order of the two sets: length first, then words from word 0 upwards. Asks 1 to 3 of both sets.
 pub fn cmp(a: FixedBitSet, words: &[u64], b: FixedBitSet, other: &[u64]) -> Compared
     ensures { λ r. ⌜ r ≡ cmpRule a (now (words .entry)) b (now (other .entry)) ⌝ }
 {

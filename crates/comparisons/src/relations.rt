@@ -10,7 +10,7 @@ ghost use Rattle.sets.specs.Questions.{questions};
 ghost use Rattle.comparisons.specs.Relations.{disjoint, subset};
 ghost use Rattle.comparisons.specs.Rules.{isDisjointRule, isSubsetRule, isSupersetRule};
 
-// Whether no word that both sets have holds a common member.
+// Whether no word that both sets have holds a common member: beyond them there is none.
 fn disjoint_by_words(a: FixedBitSet, words: &[u64], b: FixedBitSet, other: &[u64]) -> bool
     requires { ⌜ (questions a (now words) ≡ 0) × (questions b (now other) ≡ 0) ⌝ }
     ensures { λ r. ⌜ r ≡ disjoint (read (now (words .entry)) a) (read (now (other .entry)) b) ⌝ }
@@ -35,7 +35,7 @@ fn subset_by_words(a: FixedBitSet, words: &[u64], b: FixedBitSet, other: &[u64])
     !contains_any_in_range(a, words, start, a.length).yes
 }
 
-// Whether the two sets have no common member.
+// Whether the two sets have no common member. Asks 1 to 3 of both sets.
 pub fn is_disjoint(a: FixedBitSet, words: &[u64], b: FixedBitSet, other: &[u64]) -> Told
     ensures { λ r. ⌜ r ≡ isDisjointRule a (now (words .entry)) b (now (other .entry)) ⌝ }
 {
@@ -49,7 +49,7 @@ pub fn is_disjoint(a: FixedBitSet, words: &[u64], b: FixedBitSet, other: &[u64])
     }
 }
 
-// Whether each member of the first set is in the second.
+// Whether each member of the first set is in the second. Asks 1 to 3 of both sets.
 pub fn is_subset(a: FixedBitSet, words: &[u64], b: FixedBitSet, other: &[u64]) -> Told
     ensures { λ r. ⌜ r ≡ isSubsetRule a (now (words .entry)) b (now (other .entry)) ⌝ }
 {
@@ -63,7 +63,7 @@ pub fn is_subset(a: FixedBitSet, words: &[u64], b: FixedBitSet, other: &[u64]) -
     }
 }
 
-// Whether each member of the second set is in the first: the questions keep the order of the arguments.
+// Whether each member of the second set is in the first. Asks 1 to 3 of both sets, in the order of the arguments.
 pub fn is_superset(a: FixedBitSet, words: &[u64], b: FixedBitSet, other: &[u64]) -> Told
     ensures { λ r. ⌜ r ≡ isSupersetRule a (now (words .entry)) b (now (other .entry)) ⌝ }
 {

@@ -14,9 +14,8 @@ pub(crate) fn common_blocks(a: FixedBitSet, b: FixedBitSet) -> usize
     lesser(blocks_of(a.length), blocks_of(b.length))
 }
 
-// The first word below `end` where the join of the two words is not 0: where there is none the end, or a slice's end if
-// that is less.
-// `first`, `second` and `both` are all ones or 0, as in `two_sets`: one loop serves every comparison.
+// The first word below `end` where the two words, joined by the masks of an operation, are not 0: where there is none the
+// end, or a slice's end if that is less.
 pub(crate) fn first_joined(
     words: &[u64],
     other: &[u64],

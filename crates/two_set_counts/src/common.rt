@@ -8,8 +8,7 @@ ghost use Rattle.word_bits.specs.Digits.{row};
 ghost use Rattle.sets.specs.Members.{bitOf};
 ghost use Rattle.two_sets.specs.Operations.{joined, maskedJoin};
 
-// How many bits of the words 0..end are set, once joined: `first`, `second` and `both` are all ones or 0,
-// so that one loop with no branch serves the four operations.
+// How many bits of the words 0..end are set, once joined by the masks of an operation: one loop with no branch serves the four.
 fn ones_joined(
     words: &[u64],
     other: &[u64],

@@ -33,24 +33,28 @@ fn joint_count(
     }
 }
 
+// How many positions the walk `union` gives. Asks 1 to 3 of both sets.
 pub fn union_count(a: FixedBitSet, words: &[u64], b: FixedBitSet, other: &[u64]) -> Counted
     ensures { λ r. ⌜ r ≡ unionCountRule a (now (words .entry)) b (now (other .entry)) ⌝ }
 {
     joint_count(a, words, b, other, Operation::Union)
 }
 
+// How many positions the walk `intersection` gives. Asks 1 to 3 of both sets.
 pub fn intersection_count(a: FixedBitSet, words: &[u64], b: FixedBitSet, other: &[u64]) -> Counted
     ensures { λ r. ⌜ r ≡ intersectionCountRule a (now (words .entry)) b (now (other .entry)) ⌝ }
 {
     joint_count(a, words, b, other, Operation::Intersection)
 }
 
+// How many positions the walk `difference` gives. Asks 1 to 3 of both sets.
 pub fn difference_count(a: FixedBitSet, words: &[u64], b: FixedBitSet, other: &[u64]) -> Counted
     ensures { λ r. ⌜ r ≡ differenceCountRule a (now (words .entry)) b (now (other .entry)) ⌝ }
 {
     joint_count(a, words, b, other, Operation::Difference)
 }
 
+// How many positions the walk `symmetric_difference` gives. Asks 1 to 3 of both sets.
 pub fn symmetric_difference_count(
     a: FixedBitSet,
     words: &[u64],

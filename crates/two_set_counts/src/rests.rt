@@ -15,7 +15,7 @@ fn ones_from(set: FixedBitSet, words: &[u64], start: usize) -> usize
     count_ones(set, words, lesser(start, set.length), set.length).count
 }
 
-// How many of those the operation takes, where one of the two sets ends at `start`.
+// How many members at `start` or above it the operation takes, where one of the two sets ends at `start`.
 pub(crate) fn ones_beyond(
     a: FixedBitSet,
     words: &[u64],

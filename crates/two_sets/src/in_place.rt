@@ -105,14 +105,14 @@ fn grow_with(
     }
 }
 
-// The first set becomes the union of the two; 7 is asked of the larger length.
+// The first set becomes the union of the two, of the larger length. Asks 1 to 3 of both sets, then 7 of that length.
 pub fn union_with(a: FixedBitSet, words: &mut [u64], b: FixedBitSet, other: &[u64]) -> Edited
     ensures { λ r. ⌜ outcome r (now (words .exit)) ≡ unionWithRule a (now (words .entry)) b (now (other .entry)) ⌝ }
 {
     grow_with(a, words, b, other, Operation::Union)
 }
 
-// The first set becomes the symmetric difference of the two; 7 is asked of the larger length.
+// The first set becomes the symmetric difference of the two, of the larger length. Asks 1 to 3 of both sets, then 7 of that length.
 pub fn symmetric_difference_with(
     a: FixedBitSet,
     words: &mut [u64],
@@ -124,14 +124,14 @@ pub fn symmetric_difference_with(
     grow_with(a, words, b, other, Operation::SymmetricDifference)
 }
 
-// The first set keeps the members that the second has too.
+// The first set keeps the members that the second has too. Asks 1 to 3 of both sets.
 pub fn intersect_with(a: FixedBitSet, words: &mut [u64], b: FixedBitSet, other: &[u64]) -> Edited
     ensures { λ r. ⌜ outcome r (now (words .exit)) ≡ intersectWithRule a (now (words .entry)) b (now (other .entry)) ⌝ }
 {
     keep_with(a, words, b, other, Operation::Intersection)
 }
 
-// The first set keeps the members that the second does not have.
+// The first set keeps the members that the second does not have. Asks 1 to 3 of both sets.
 pub fn difference_with(a: FixedBitSet, words: &mut [u64], b: FixedBitSet, other: &[u64]) -> Edited
     ensures { λ r. ⌜ outcome r (now (words .exit)) ≡ differenceWithRule a (now (words .entry)) b (now (other .entry)) ⌝ }
 {

@@ -9,7 +9,7 @@ ghost use Rattle.blocks.specs.Sweeps.{swept};
 ghost use Rattle.two_sets.specs.Operations.{joinedWord, maskedJoin};
 
 // Every operation on two bits is an exclusive or of the first, the second and both, each taken or left out:
-// `first`, `second` and `both` are all ones or 0, so that one loop with no branch serves the four.
+// the masks are all ones or 0, so that one loop with no branch serves the four.
 fn join_masked(words: &mut [u64], other: &[u64], end: usize, first: u64, second: u64, both: u64)
     ensures { λ r. ⌜ now (words .exit) ≡ swept 0 (min end (length (now (other .entry)))) (λ (k w : ℕ). maskedJoin first second both w (getD (now (other .entry)) k 0)) (now (words .entry)) ⌝ }
 {

@@ -44,7 +44,7 @@ fn join_third(
     }
 }
 
-// `a & b`
+// `a & b`: the intersection into a third buffer, of the smaller length. Asks 1 to 3 of both sets, then 7 of that length.
 pub fn bitand(
     a: FixedBitSet,
     words: &[u64],
@@ -65,7 +65,7 @@ pub fn bitand(
     )
 }
 
-// `a | b`
+// `a | b`: the union into a third buffer, of the larger length. Asks 1 to 3 of both sets, then 7 of that length.
 pub fn bitor(
     a: FixedBitSet,
     words: &[u64],
@@ -86,7 +86,7 @@ pub fn bitor(
     )
 }
 
-// `a ^ b`
+// `a ^ b`: the symmetric difference into a third buffer, of the larger length. Asks 1 to 3 of both sets, then 7 of that length.
 pub fn bitxor(
     a: FixedBitSet,
     words: &[u64],

@@ -6,17 +6,14 @@ use borrow.Author.Needs.{needs}
 use Rattle.blocks.proofs.sweeps.block.Statement.{statement}
 use Rattle.blocks.proofs.sweeps.block.Tie as tie
 
-mul-result : tie.Need-mul-result
-mul-result c = search needs
-
-shared-slice-read-result : tie.Need-shared-slice-read-result
-shared-slice-read-result c = search needs
-
-returns : tie.Need-returns
-returns c = search needs
-
 returns-2 : tie.Need-returns-2
 returns-2 c = sym (List·getD-eq-default (now (c .before .args .words)) 0 (c .if1 .left))
 
 pub block-spec : {M : Type 1} → statement M
-block-spec = tie.close (tie.spec mul-result shared-slice-read-result returns returns-2)
+block-spec =
+    tie.close
+    (tie.spec
+    (λ c. search needs)
+    (λ c. search needs)
+    (λ c. search needs)
+    returns-2)

@@ -1,4 +1,4 @@
--- `orderings::cmp` meets its contract. Assumes nothing.
+-- `comparisons::cmp` meets its contract. Assumes nothing.
 use mathlib.Core.Path.{sym, ap, _∙_}
 use Prim.Native.Nat.{ℕ}
 use denote.Ref.{now}
@@ -7,9 +7,6 @@ use Rattle.comparisons.proofs.SearchLaws.{both-asked}
 use borrow.Author.Needs.{needs}
 use Rattle.comparisons.proofs.orders.cmp.Statement.{statement}
 use Rattle.comparisons.proofs.orders.cmp.Tie as tie
-
-check-both-requires : tie.Need-check-both-requires
-check-both-requires c κs = search needs
 
 returns : tie.Need-returns
 returns c = given-no _ _ (c .before .check-both .ensures) (c .if1 .taken)
@@ -25,4 +22,10 @@ returns-2 c =
     (ap (λ (x : ℕ). record { number = 0; order = x }) (c .order-of .ensures))
 
 pub cmp-spec : {M : Type 1} → statement M
-cmp-spec = tie.close (tie.spec check-both-requires returns order-of-requires returns-2)
+cmp-spec =
+    tie.close
+    (tie.spec
+    (λ c κs. search needs)
+    returns
+    order-of-requires
+    returns-2)

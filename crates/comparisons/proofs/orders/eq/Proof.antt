@@ -1,4 +1,4 @@
--- `orderings::eq` meets its contract. Assumes nothing.
+-- `comparisons::eq` meets its contract. Assumes nothing.
 use mathlib.Core.Path.{sym, ap, _∙_}
 use mathlib.Core.Bool.{Bool}
 use denote.Ref.{now}
@@ -7,9 +7,6 @@ use Rattle.comparisons.proofs.SearchLaws.{both-asked}
 use borrow.Author.Needs.{needs}
 use Rattle.comparisons.proofs.orders.eq.Statement.{statement}
 use Rattle.comparisons.proofs.orders.eq.Tie as tie
-
-check-both-requires : tie.Need-check-both-requires
-check-both-requires c κs = search needs
 
 returns : tie.Need-returns
 returns c = given-no _ _ (c .before .check-both .ensures) (c .if1 .taken)
@@ -25,4 +22,10 @@ returns-2 c =
     (ap (λ (x : Bool). record { number = 0; yes = x }) (c .same .ensures))
 
 pub eq-spec : {M : Type 1} → statement M
-eq-spec = tie.close (tie.spec check-both-requires returns same-requires returns-2)
+eq-spec =
+    tie.close
+    (tie.spec
+    (λ c κs. search needs)
+    returns
+    same-requires
+    returns-2)

@@ -1,4 +1,4 @@
--- `orderings::orders::order_of` meets its contract. Assumes nothing.
+-- `comparisons::orders::order_of` meets its contract. Assumes nothing.
 use mathlib.Core.Path.{ap, _∙_}
 use Prim.Native.Nat.{ℕ}
 use denote.Ref.{now}
@@ -17,22 +17,25 @@ returns c = shorter _ _ _ _ (c .if1 .taken)
 returns-2 : tie.Need-returns-2
 returns-2 c = longer-than _ _ _ _ (c .if2 .taken)
 
-blocks-of-requires : tie.Need-blocks-of-requires
-blocks-of-requires c κs = search needs
-
 words-order-requires : tie.Need-words-order-requires
 words-order-requires c κs =
-    let a = c .before .before .before .before .before .before .before .before .before .args in
-    common-lent (a .a) (now (a .words)) (a .b) (now (a .other)) (c .before .before .before .before .before .before .before .before .before .pre) (same-common (a .a) (a .b) (omega arith) (c .blocks-of .ensures))
+    let s = c .before .before .before .before .before .before .before .before .before in
+    let a = s .args in
+    common-lent (a .a) (now (a .words)) (a .b) (now (a .other)) (s .pre) (same-common (a .a) (a .b) (omega arith) (c .blocks-of .ensures))
 
 returns-3 : tie.Need-returns-3
 returns-3 c =
-    let a = c .before .before .before .before .before .before .before .before .before .before .args in
-    let v = both-of (a .a) (now (a .words)) (a .b) (now (a .other)) (c .before .before .before .before .before .before .before .before .before .before .pre) in
+    let s = c .before .before .before .before .before .before .before .before .before .before in
+    let a = s .args in
     c .words-order .ensures
     ∙ ap (λ (n : ℕ). wordsOrder 0 n (bitOf (now (a .words))) (bitOf (now (a .other)))) (c .before .blocks-of .ensures)
-    ∙ as-long (a .a) (now (a .words)) (a .b) (now (a .other)) v (omega arith)
+    ∙ as-long (a .a) (now (a .words)) (a .b) (now (a .other)) (both-of (a .a) (now (a .words)) (a .b) (now (a .other)) (s .pre)) (omega arith)
 
 pub order-of-spec : {M : Type 1} → statement M
 order-of-spec =
-    tie.close (tie.spec returns returns-2 blocks-of-requires words-order-requires returns-3)
+    tie.close (tie.spec
+    returns
+    returns-2
+    (λ c κs. search needs)
+    words-order-requires
+    returns-3)

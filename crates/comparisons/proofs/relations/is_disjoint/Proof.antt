@@ -8,9 +8,6 @@ use borrow.Author.Needs.{needs}
 use Rattle.comparisons.proofs.relations.is_disjoint.Statement.{statement}
 use Rattle.comparisons.proofs.relations.is_disjoint.Tie as tie
 
-check-both-requires : tie.Need-check-both-requires
-check-both-requires c κs = search needs
-
 returns : tie.Need-returns
 returns c = given-no _ _ (c .before .check-both .ensures) (c .if1 .taken)
 
@@ -25,4 +22,10 @@ returns-2 c =
     (ap (λ (x : Bool). record { number = 0; yes = x }) (c .disjoint-by-words .ensures))
 
 pub is-disjoint-spec : {M : Type 1} → statement M
-is-disjoint-spec = tie.close (tie.spec check-both-requires returns disjoint-by-words-requires returns-2)
+is-disjoint-spec =
+    tie.close
+    (tie.spec
+    (λ c κs. search needs)
+    returns
+    disjoint-by-words-requires
+    returns-2)

@@ -13,12 +13,6 @@ use native.Mathlib.Omega.{arith}
 use Rattle.comparisons.proofs.relations.subset_by_words.Statement.{statement}
 use Rattle.comparisons.proofs.relations.subset_by_words.Tie as tie
 
-common-blocks-requires : tie.Need-common-blocks-requires
-common-blocks-requires c κs = search needs
-
-first-joined-requires : tie.Need-first-joined-requires
-first-joined-requires c κs = search needs
-
 words : (s : tie.After-shared-slice-known) → Words (now (s .before .args .words))
 words s = record { fits = λ k. s .shared-slice-known .given k .fits }
 
@@ -45,9 +39,6 @@ mul-start c =
 returns-2 : tie.Need-returns-2
 returns-2 c = subset-yes (known (c .before .before .before)) (c .before .before .if1 .left) (c .if2 .taken)
 
-contains-any-in-range-requires : tie.Need-contains-any-in-range-requires
-contains-any-in-range-requires c κs = search needs
-
 returns-3 : tie.Need-returns-3
 returns-3 c =
     let a = c .before .before .before .before .before .before .before .before .before .args in
@@ -59,10 +50,10 @@ pub subset-by-words-spec : {M : Type 1} → statement M
 subset-by-words-spec =
     tie.close
     (tie.spec
-    common-blocks-requires
-    first-joined-requires
+    (λ c κs. search needs)
+    (λ c κs. search needs)
     returns
     mul-start
     returns-2
-    contains-any-in-range-requires
+    (λ c κs. search needs)
     returns-3)

@@ -16,32 +16,8 @@ Inv-loop words other end first second both stop k₀ k = (k ≤ stop) × ((i : �
 abbrev μ-loop : tie.MeasureT-loop
 μ-loop words other end first second both stop k₀ k = stop - k
 
-lesser-requires : tie.Need-lesser-requires Inv-loop μ-loop
-lesser-requires c κs = search needs
-
-lesser-requires-2 : tie.Need-lesser-requires-2 Inv-loop μ-loop
-lesser-requires-2 c κs = search needs
-
 loop-holds : tie.Need-loop-holds Inv-loop μ-loop
 loop-holds c = (omega arith, λ i a b. absurd (omega arith))
-
-mul-a : tie.Need-mul-a Inv-loop μ-loop
-mul-a c = search needs
-
-shared-slice-read-a : tie.Need-shared-slice-read-a Inv-loop μ-loop
-shared-slice-read-a c = search needs
-
-mul-b : tie.Need-mul-b Inv-loop μ-loop
-mul-b c = search needs
-
-shared-slice-read-b : tie.Need-shared-slice-read-b Inv-loop μ-loop
-shared-slice-read-b c = search needs
-
-add-k : tie.Need-add-k Inv-loop μ-loop
-add-k c = search needs
-
-loop-less : tie.Need-loop-less Inv-loop μ-loop
-loop-less c = search needs
 
 loop-again : tie.Need-loop-again Inv-loop μ-loop
 loop-again c =
@@ -65,15 +41,15 @@ first-joined-spec =
     (tie.spec
     Inv-loop
     μ-loop
-    lesser-requires
-    lesser-requires-2
+    (λ c κs. search needs)
+    (λ c κs. search needs)
     loop-holds
-    mul-a
-    shared-slice-read-a
-    mul-b
-    shared-slice-read-b
-    add-k
-    loop-less
+    (λ c. search needs)
+    (λ c. search needs)
+    (λ c. search needs)
+    (λ c. search needs)
+    (λ c. search needs)
+    (λ c. search needs)
     loop-again
     returns
     returns-2)

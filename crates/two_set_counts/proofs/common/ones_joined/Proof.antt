@@ -26,21 +26,6 @@ abbrev μ-loop : tie.MeasureT-loop
 loop-holds : tie.Need-loop-holds Inv-loop μ-loop
 loop-holds c = (omega arith, row-none _)
 
-mul-a : tie.Need-mul-a Inv-loop μ-loop
-mul-a c = search needs
-
-shared-slice-read-a : tie.Need-shared-slice-read-a Inv-loop μ-loop
-shared-slice-read-a c = omega arith
-
-mul-b : tie.Need-mul-b Inv-loop μ-loop
-mul-b c = search needs
-
-shared-slice-read-b : tie.Need-shared-slice-read-b Inv-loop μ-loop
-shared-slice-read-b c = omega arith
-
-count-ones-requires : tie.Need-count-ones-requires Inv-loop μ-loop
-count-ones-requires c κs = search needs
-
 add-sum : tie.Need-add-sum Inv-loop μ-loop
 add-sum c =
     let inv = c .before .before .before .before .loop .inv in
@@ -48,12 +33,6 @@ add-sum c =
     let k = c .before .before .before .before .loop .k in
     let f = word-at (a .first) (a .second) (a .both) (now (a .words)) (now (a .other)) in
     omega (arith, inv .1, count-le (k * 64) (row f), c .count-ones .ensures, count-le 64 (digit (f k)))
-
-add-k : tie.Need-add-k Inv-loop μ-loop
-add-k c = search needs
-
-loop-less : tie.Need-loop-less Inv-loop μ-loop
-loop-less c = search needs
 
 loop-again : tie.Need-loop-again Inv-loop μ-loop
 loop-again c =
@@ -77,13 +56,13 @@ ones-joined-spec =
     Inv-loop
     μ-loop
     loop-holds
-    mul-a
-    shared-slice-read-a
-    mul-b
-    shared-slice-read-b
-    count-ones-requires
+    (λ c. search needs)
+    (λ c. omega arith)
+    (λ c. search needs)
+    (λ c. omega arith)
+    (λ c κs. search needs)
     add-sum
-    add-k
-    loop-less
+    (λ c. search needs)
+    (λ c. search needs)
     loop-again
     returns)

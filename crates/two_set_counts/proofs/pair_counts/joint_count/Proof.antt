@@ -12,30 +12,19 @@ use native.Mathlib.Omega.{arith}
 use Rattle.two_set_counts.proofs.pair_counts.joint_count.Statement.{statement}
 use Rattle.two_set_counts.proofs.pair_counts.joint_count.Tie as tie
 
-check-both-requires : tie.Need-check-both-requires
-check-both-requires c κs = search needs
-
 returns : tie.Need-returns
 returns c = given-no _ _ (c .before .check-both .ensures) (c .if1 .taken)
 
-blocks-of-requires : tie.Need-blocks-of-requires
-blocks-of-requires c κs = search needs
-
-blocks-of-requires-2 : tie.Need-blocks-of-requires-2
-blocks-of-requires-2 c κs = search needs
-
-lesser-requires : tie.Need-lesser-requires
-lesser-requires c κs = search needs
-
 -- no question says no
-sound : (c : tie.After-lesser) → bothQuestions (c .before .before .before .before .before .before .before .args .a) (now (c .before .before .before .before .before .before .before .args .words)) (c .before .before .before .before .before .before .before .args .b) (now (c .before .before .before .before .before .before .before .args .other)) ≡ 0
+sound : (c : tie.After-lesser)
+    → let a = c .before .before .before .before .before .before .before .args in
+    bothQuestions (a .a) (now (a .words)) (a .b) (now (a .other)) ≡ 0
 sound c = sym (c .before .before .before .before .check-both .ensures) ∙ c .before .before .before .if1 .left
 
-known : (c : tie.After-lesser) → Common (c .before .before .before .before .before .before .before .args .operation) (c .before .before .before .before .before .before .before .args .a) (now (c .before .before .before .before .before .before .before .args .words)) (c .before .before .before .before .before .before .before .args .b) (now (c .before .before .before .before .before .before .before .args .other)) (c .lesser .result)
-known c =
-    let a = c .before .before .before .before .before .before .before .args in
-    common (a .operation) (a .a) (now (a .words)) (a .b) (now (a .other)) (c .lesser .result) (sound c)
-    (c .lesser .ensures ∙ ap₂ min (c .before .before .blocks-of .ensures) (c .before .blocks-of2 .ensures))
+known : (c : tie.After-lesser)
+    → let a = c .before .before .before .before .before .before .before .args in
+    Common (a .operation) (a .a) (now (a .words)) (a .b) (now (a .other)) (c .lesser .result)
+known c = common _ _ _ _ _ _ (sound c) (c .lesser .ensures ∙ ap₂ min (c .before .before .blocks-of .ensures) (c .before .blocks-of2 .ensures))
 
 ones-common-requires : tie.Need-ones-common-requires
 ones-common-requires c κs = let k = known c in (k .here, k .there, k .small)
@@ -47,7 +36,9 @@ ones-beyond-requires : tie.Need-ones-beyond-requires
 ones-beyond-requires c κs = let k = known (c .before) in (k .first, k .second)
 
 -- the two parts are all
-whole : (c : tie.After-ones-beyond) → c .before .ones-common .result + c .ones-beyond .result ≡ jointOnes (c .before .before .before .before .before .before .before .before .before .args .operation) (read (now (c .before .before .before .before .before .before .before .before .before .args .words)) (c .before .before .before .before .before .before .before .before .before .args .a)) (read (now (c .before .before .before .before .before .before .before .before .before .args .other)) (c .before .before .before .before .before .before .before .before .before .args .b))
+whole : (c : tie.After-ones-beyond)
+    → let a = c .before .before .before .before .before .before .before .before .before .args in
+    c .before .ones-common .result + c .ones-beyond .result ≡ jointOnes (a .operation) (read (now (a .words)) (a .a)) (read (now (a .other)) (a .b))
 whole c = ap₂ _+_ (c .before .ones-common .ensures) (c .ones-beyond .ensures) ∙ known (c .before .before) .parts
 
 add-t12 : tie.Need-add-t12
@@ -60,11 +51,11 @@ pub joint-count-spec : {M : Type 1} → statement M
 joint-count-spec =
     tie.close
     (tie.spec
-    check-both-requires
+    (λ c κs. search needs)
     returns
-    blocks-of-requires
-    blocks-of-requires-2
-    lesser-requires
+    (λ c κs. search needs)
+    (λ c κs. search needs)
+    (λ c κs. search needs)
     ones-common-requires
     mul-ones-beyond
     ones-beyond-requires

@@ -10,37 +10,10 @@ use native.Mathlib.Omega.{arith}
 use Rattle.two_set_counts.proofs.rests.ones_beyond.Statement.{statement}
 use Rattle.two_set_counts.proofs.rests.ones_beyond.Tie as tie
 
-enum-told : tie.Need-enum-told
-enum-told c = search needs
-
-ones-from-requires : tie.Need-ones-from-requires
-ones-from-requires c κs = search needs
-
-ones-from-requires-2 : tie.Need-ones-from-requires-2
-ones-from-requires-2 c κs = search needs
-
 add-result : tie.Need-add-result
 add-result c =
     let s = c .before .before .before .before .before .before in
     omega (arith, c .before .ones-from .ensures, c .ones-from2 .ensures, rest-le (s .args .a) (now (s .args .words)) (s .args .start) (s .pre .0), rest-le (s .args .b) (now (s .args .other)) (s .args .start) (s .pre .1))
-
-enum-told-2 : tie.Need-enum-told-2
-enum-told-2 c = search needs
-
-enum-told-3 : tie.Need-enum-told-3
-enum-told-3 c = search needs
-
-ones-from-requires-3 : tie.Need-ones-from-requires-3
-ones-from-requires-3 c κs = search needs
-
-enum-told-4 : tie.Need-enum-told-4
-enum-told-4 c = search needs
-
-ones-from-requires-4 : tie.Need-ones-from-requires-4
-ones-from-requires-4 c κs = search needs
-
-ones-from-requires-5 : tie.Need-ones-from-requires-5
-ones-from-requires-5 c κs = search needs
 
 add-result-2 : tie.Need-add-result-2
 add-result-2 c =
@@ -64,16 +37,16 @@ pub ones-beyond-spec : {M : Type 1} → statement M
 ones-beyond-spec =
     tie.close
     (tie.spec
-    enum-told
-    ones-from-requires
-    ones-from-requires-2
+    (λ c. search needs)
+    (λ c κs. search needs)
+    (λ c κs. search needs)
     add-result
-    enum-told-2
-    enum-told-3
-    ones-from-requires-3
-    enum-told-4
-    ones-from-requires-4
-    ones-from-requires-5
+    (λ c. search needs)
+    (λ c. search needs)
+    (λ c κs. search needs)
+    (λ c. search needs)
+    (λ c κs. search needs)
+    (λ c κs. search needs)
     add-result-2
     returns
     returns-2

@@ -9,12 +9,6 @@ use borrow.Author.Needs.{needs}
 use Rattle.two_set_counts.proofs.rests.ones_from.Statement.{statement}
 use Rattle.two_set_counts.proofs.rests.ones_from.Tie as tie
 
-lesser-requires : tie.Need-lesser-requires
-lesser-requires c κs = search needs
-
-count-ones-requires : tie.Need-count-ones-requires
-count-ones-requires c κs = search needs
-
 returns : tie.Need-returns
 returns c =
     let a = c .before .before .before .args in
@@ -23,4 +17,9 @@ returns c =
     ∙ counted-from (a .set) (now (a .words)) (a .start) (c .before .before .before .pre)
 
 pub ones-from-spec : {M : Type 1} → statement M
-ones-from-spec = tie.close (tie.spec lesser-requires count-ones-requires returns)
+ones-from-spec =
+    tie.close
+    (tie.spec
+    (λ c κs. search needs)
+    (λ c κs. search needs)
+    returns)

@@ -1,4 +1,4 @@
--- `joins::join_masked` meets its contract. The loop has stored the words 0..k. Assumes nothing.
+-- `two_sets::joins::join_masked` meets its contract. The loop has stored the words 0..k. Assumes nothing.
 use mathlib.Core.Path.{ap}
 use Prim.Native.Nat.{ℕ, _≤_, _-_}
 use denote.Ref.{now}
@@ -16,38 +16,8 @@ Inv-loop words₀ other end first second both stop k₀ words k = (k ≤ stop) �
 abbrev μ-loop : tie.MeasureT-loop
 μ-loop words₀ other end first second both stop k₀ words k = stop - k
 
-lesser-requires : tie.Need-lesser-requires Inv-loop μ-loop
-lesser-requires c κs = search needs
-
-lesser-requires-2 : tie.Need-lesser-requires-2 Inv-loop μ-loop
-lesser-requires-2 c κs = search needs
-
 loop-holds : tie.Need-loop-holds Inv-loop μ-loop
 loop-holds c = (omega arith, stored-none _ _ _)
-
-mul-a : tie.Need-mul-a Inv-loop μ-loop
-mul-a c = search needs
-
-slice-read-a : tie.Need-slice-read-a Inv-loop μ-loop
-slice-read-a c = omega arith
-
-mul-b : tie.Need-mul-b Inv-loop μ-loop
-mul-b c = search needs
-
-shared-slice-read-b : tie.Need-shared-slice-read-b Inv-loop μ-loop
-shared-slice-read-b c = omega arith
-
-mul-words : tie.Need-mul-words Inv-loop μ-loop
-mul-words c = search needs
-
-slice-write-words : tie.Need-slice-write-words Inv-loop μ-loop
-slice-write-words c = omega arith
-
-add-k : tie.Need-add-k Inv-loop μ-loop
-add-k c = search needs
-
-loop-less : tie.Need-loop-less Inv-loop μ-loop
-loop-less c = search needs
 
 loop-again : tie.Need-loop-again Inv-loop μ-loop
 loop-again c =
@@ -73,17 +43,17 @@ join-masked-spec =
     (tie.spec
     Inv-loop
     μ-loop
-    lesser-requires
-    lesser-requires-2
+    (λ c κs. search needs)
+    (λ c κs. search needs)
     loop-holds
-    mul-a
-    slice-read-a
-    mul-b
-    shared-slice-read-b
-    mul-words
-    slice-write-words
-    add-k
-    loop-less
+    (λ c. search needs)
+    (λ c. omega arith)
+    (λ c. search needs)
+    (λ c. omega arith)
+    (λ c. search needs)
+    (λ c. omega arith)
+    (λ c. search needs)
+    (λ c. search needs)
     loop-again
     same-length
     returns)
