@@ -12,11 +12,12 @@ use Rattle.sets.specs.Questions.{lengthQuestion, wordsQuestion, strayQuestion, 
 use Rattle.two_sets.specs.Combined.{combined}
 use Rattle.two_set_counts.specs.Lists.{positions}
 use Rattle.parts.specs.Steps.{front, back}
+use Rattle.walks.specs.Rules.{partQuestion}
 use Rattle.whole_walks.specs.Walks.{answersFrom}
 use Rattle.whole_walks.specs.Rules.{answersQuestion}
-use Rattle.checked_lines.specs.Asked.{answer}
+use Rattle.checked_lines.specs.Asked.{answer, stepsFrom}
 use Rattle.checked_lines.specs.Table.{Line, table}
 
 table-holds : map (λ (l : Line). answer (l .asked)) table ≡ map (λ (l : Line). l .expected) table
-unfolding count some all zerosBelow zerosAbove digit number wordOf unset covers rangeQuestion wordsOf bitOf read write changed given lengthQuestion wordsQuestion strayQuestion questions positionQuestion roomQuestion combined bothQuestions positions front back answersFrom answersQuestion
+unfolding count some all zerosBelow zerosAbove digit number wordOf unset covers rangeQuestion wordsOf bitOf read write changed given lengthQuestion wordsQuestion strayQuestion questions positionQuestion roomQuestion combined bothQuestions positions front back partQuestion answersFrom answersQuestion stepsFrom
 table-holds = refl

@@ -4,6 +4,7 @@ use Prim.Native.Nat.{ℕ}
 use Rattle.sets.specs.declared.fixed_bit_set.FixedBitSet.{FixedBitSet}
 use Rattle.whole_walks.specs.declared.walk.Walk.the-variants.{Ones, Union, SymmetricDifference}
 use Rattle.checked_lines.specs.Asked.{Asked, IsFull, IsClear, Minimum, Insert, CopyBit, InsertRange, CountOnes, UnionWith, LastBitOf, Listed, Steps}
+use Rattle.checked_lines.specs.Asked.{UnionCount, SymmetricDifferenceCount, OnesSteps, UnionSteps, SymmetricDifferenceSteps}
 
 -- the line's place among those marked P, from 1
 pub record Line : Type 0 where
@@ -40,11 +41,29 @@ table =
     -- 6. A = {1, 70}, L = 71; B = {0, 1}, L = 2: `union` front 1, 70, 0; count 3
     ∷ line 6 (Listed Union (bits 71) (2 ∷ 64 ∷ []) (bits 2) (3 ∷ [])) (1 ∷ 70 ∷ 0 ∷ [])
     ∷ line 6 (Steps Union (bits 71) (2 ∷ 64 ∷ []) (bits 2) (3 ∷ []) (0 ∷ 0 ∷ 0 ∷ 0 ∷ [])) (0 ∷ 3 ∷ 1 ∷ 70 ∷ 0 ∷ none ∷ [])
+    -- the count and the steps by themselves; a step gives number, answer, low and high of each part, and the next step takes these records
+    ∷ line 6 (UnionCount (bits 71) (2 ∷ 64 ∷ []) (bits 2) (3 ∷ [])) (0 ∷ 3 ∷ [])
+    ∷ line 6 (UnionSteps (bits 71) (2 ∷ 64 ∷ []) (bits 2) (3 ∷ []) (0 ∷ 0 ∷ 0 ∷ 0 ∷ []))
+    (0 ∷ 1 ∷ 2 ∷ 71 ∷ 0 ∷ 2 ∷
+    0 ∷ 70 ∷ 71 ∷ 71 ∷ 0 ∷ 2 ∷
+    0 ∷ 0 ∷ 71 ∷ 71 ∷ 1 ∷ 2 ∷
+    0 ∷ none ∷ 71 ∷ 71 ∷ 1 ∷ 2 ∷ [])
     -- 7. these: `symmetric_difference` front 70, 0
     ∷ line 7 (Listed SymmetricDifference (bits 71) (2 ∷ 64 ∷ []) (bits 2) (3 ∷ [])) (70 ∷ 0 ∷ [])
     ∷ line 7 (Steps SymmetricDifference (bits 71) (2 ∷ 64 ∷ []) (bits 2) (3 ∷ []) (0 ∷ 0 ∷ 0 ∷ [])) (0 ∷ 2 ∷ 70 ∷ 0 ∷ none ∷ [])
+    ∷ line 7 (SymmetricDifferenceCount (bits 71) (2 ∷ 64 ∷ []) (bits 2) (3 ∷ [])) (0 ∷ 2 ∷ [])
+    ∷ line 7 (SymmetricDifferenceSteps (bits 71) (2 ∷ 64 ∷ []) (bits 2) (3 ∷ []) (0 ∷ 0 ∷ 0 ∷ []))
+    (0 ∷ 70 ∷ 71 ∷ 71 ∷ 0 ∷ 2 ∷
+    0 ∷ 0 ∷ 71 ∷ 71 ∷ 1 ∷ 2 ∷
+    0 ∷ none ∷ 71 ∷ 71 ∷ 1 ∷ 2 ∷ [])
     -- 8. L = 65, {0, 63, 64}: front 0, back 64, front 63, then none at both ends
     ∷ line 8 (Steps Ones (bits 65) (0x8000000000000001 ∷ 1 ∷ []) (bits 0) [] (0 ∷ 1 ∷ 0 ∷ 0 ∷ 1 ∷ [])) (0 ∷ 3 ∷ 0 ∷ 64 ∷ 63 ∷ none ∷ none ∷ [])
+    ∷ line 8 (OnesSteps (bits 65) (0x8000000000000001 ∷ 1 ∷ []) (0 ∷ 1 ∷ 0 ∷ 0 ∷ 1 ∷ []))
+    (0 ∷ 0 ∷ 1 ∷ 65 ∷
+    0 ∷ 64 ∷ 1 ∷ 64 ∷
+    0 ∷ 63 ∷ 64 ∷ 64 ∷
+    0 ∷ none ∷ 64 ∷ 64 ∷
+    0 ∷ none ∷ 64 ∷ 64 ∷ [])
     -- 9. L = 4, {3}; `union_with` L = 130, {129}: length 130, words 8, 0, 2
     ∷ line 9 (UnionWith (bits 4) (8 ∷ 77 ∷ 77 ∷ []) (bits 130) (0 ∷ 0 ∷ 2 ∷ [])) (0 ∷ 130 ∷ 8 ∷ 0 ∷ 2 ∷ [])
     -- 10. helper on 12: position 2, rest 8; on 0: 9
