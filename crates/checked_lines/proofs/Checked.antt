@@ -12,7 +12,7 @@ use Rattle.sets.specs.Questions.{lengthQuestion, wordsQuestion, strayQuestion, 
 use Rattle.two_sets.specs.Combined.{combined}
 use Rattle.two_set_counts.specs.Lists.{positions}
 use Rattle.parts.specs.Steps.{front, back}
-use Rattle.walks.specs.Rules.{partQuestion}
+use Rattle.sets.specs.Questions.{partQuestion}
 use Rattle.whole_walks.specs.Walks.{answersFrom}
 use Rattle.whole_walks.specs.Rules.{answersQuestion}
 use Rattle.checked_lines.specs.Asked.{answer, stepsFrom}
