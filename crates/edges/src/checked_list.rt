@@ -164,22 +164,29 @@ fn stray(tally: Tally) -> Tally {
 }
 
 fn longest(tally: Tally) -> Tally {
-    let mut words: [u64; 1024] = [0; 1024];
-    let answer = grow_and_insert(FixedBitSet::new(0), &mut words, 65535);
-    let set = answer.set;
-    let tally = numbers(
-        tally,
-        b"   L = 0, 1,024 words: grow_and_insert 65,535: number, length, last word",
-        &[answer.number, set.length as u64, words[1023]],
-        &[0, 65536, 0x8000000000000000],
-    );
+    let mut words: [u64; 1024] = [7; 1024];
+    let mut expected: [u64; 1024] = [7; 1024];
     let answer = grow_and_insert(FixedBitSet::new(0), &mut words, 65536);
-    let set = answer.set;
-    numbers(
+    let tally = edited(
         tally,
-        b"   L = 0, 1,024 words: grow_and_insert 65,536: number, length",
-        &[answer.number, set.length as u64],
-        &[6, 0],
+        b"   L = 0, 1,024 words of 7: grow_and_insert 65,536",
+        answer,
+        &words,
+        6,
+        0,
+        &expected,
+    );
+    expected = [0; 1024];
+    expected[1023] = 0x8000000000000000;
+    let answer = grow_and_insert(FixedBitSet::new(0), &mut words, 65535);
+    edited(
+        tally,
+        b"   L = 0, 1,024 words of 7: grow_and_insert 65,535",
+        answer,
+        &words,
+        0,
+        65536,
+        &expected,
     )
 }
 

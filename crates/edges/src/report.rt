@@ -47,6 +47,18 @@ fn print_each(numbers: &[u64], are_words: bool) {
     }
 }
 
+// The words, or how many where they are too many for a line.
+fn print_words(words: &[u64]) {
+    if words.len() > 8 {
+        say(b", all ");
+        let _written = print_decimal(1, words.len() as u64);
+        say(b" words");
+        return;
+    }
+    say(b", words");
+    print_each(words, true);
+}
+
 fn print_number(number: u64) {
     if number == 0 {
         say(b" -> accepted");
@@ -87,8 +99,7 @@ pub fn edited(
     let set = answer.set;
     say(b", length ");
     let _written = print_decimal(1, set.length as u64);
-    say(b", words");
-    print_each(words, true);
+    print_words(words);
     let agrees = same(words, expected);
     judge(
         tally,

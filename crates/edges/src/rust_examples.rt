@@ -3,9 +3,12 @@ use crate::report::counted;
 use crate::report::edited;
 use crate::report::found;
 use crate::report::told;
+use comparisons::eq;
 use edits::insert;
 use edits::insert_range;
+use sets::Edited;
 use sets::FixedBitSet;
+use sets::Told;
 use sets::is_empty;
 use sets::len;
 use sets::with_capacity;
@@ -39,10 +42,12 @@ fn blocks(tally: Tally) -> Tally {
     )
 }
 
-fn fresh_set(tally: Tally) -> Tally {
-    let mut words: [u64; 1] = [9];
+// `len` and `is_empty`.
+fn lengths(tally: Tally) -> Tally {
+    let mut words: [u64; 1] = [7];
     let answer = with_capacity(10, &mut words);
-    edited(
+    let set = answer.set;
+    let tally = edited(
         tally,
         b"   Rust: with_capacity(10)",
         answer,
@@ -50,39 +55,60 @@ fn fresh_set(tally: Tally) -> Tally {
         0,
         10,
         &[0],
-    )
-}
-
-fn lengths(tally: Tally) -> Tally {
-    let ten = FixedBitSet::new(10);
-    let none = FixedBitSet::new(0);
-    let words: [u64; 1] = [0];
+    );
     let tally = counted(
         tally,
         b"   Rust: with_capacity(10): len",
-        len(ten, &words),
+        len(set, &words),
         0,
         10,
     );
     let tally = told(
         tally,
         b"   Rust: with_capacity(10): is_empty",
-        is_empty(ten, &words),
+        is_empty(set, &words),
         0,
         false,
+    );
+    let mut words: [u64; 1] = [7];
+    let answer = with_capacity(0, &mut words);
+    let set = answer.set;
+    let tally = edited(
+        tally,
+        b"   Rust: with_capacity(0)",
+        answer,
+        &words,
+        0,
+        0,
+        &[7],
     );
     told(
         tally,
         b"   Rust: with_capacity(0): is_empty",
-        is_empty(none, &words),
+        is_empty(set, &words),
         0,
         true,
     )
 }
 
-fn ends(tally: Tally) -> Tally {
-    let set = FixedBitSet::new(10);
-    let mut words: [u64; 1] = [0];
+// `insert` into a set of ten bits.
+fn inserted(
+    tally: Tally,
+    text: &[u8],
+    set: FixedBitSet,
+    words: &mut [u64],
+    bit: usize,
+    expected: u64,
+) -> Tally {
+    let answer = insert(set, words, bit);
+    edited(tally, text, answer, words, 0, 10, &[expected])
+}
+
+// `is_clear` and `minimum`.
+fn least(tally: Tally) -> Tally {
+    let mut words: [u64; 1] = [7];
+    let fresh = with_capacity(10, &mut words);
+    let set = fresh.set;
     let tally = told(
         tally,
         b"   Rust: with_capacity(10): is_clear",
@@ -97,22 +123,13 @@ fn ends(tally: Tally) -> Tally {
         0,
         u64::MAX,
     );
-    let tally = found(
-        tally,
-        b"   Rust: with_capacity(10): maximum",
-        maximum(set, &words),
-        0,
-        u64::MAX,
-    );
-    let answer = insert(set, &mut words, 2);
-    let tally = edited(
+    let tally = inserted(
         tally,
         b"   Rust: with_capacity(10), insert(2)",
-        answer,
-        &words,
-        0,
-        10,
-        &[0x4],
+        set,
+        &mut words,
+        2,
+        0x4,
     );
     let tally = told(
         tally,
@@ -122,51 +139,77 @@ fn ends(tally: Tally) -> Tally {
         false,
     );
     let tally = found(tally, b"   Rust: {2}: minimum", minimum(set, &words), 0, 2);
-    let answer = insert(set, &mut words, 8);
-    let tally = edited(
-        tally,
-        b"   Rust: {2}, insert(8)",
-        answer,
-        &words,
-        0,
-        10,
-        &[0x104],
-    );
-    let tally = found(
+    let tally = inserted(tally, b"   Rust: {2}, insert(8)", set, &mut words, 8, 0x104);
+    found(
         tally,
         b"   Rust: {2, 8}: minimum",
         minimum(set, &words),
         0,
         2,
+    )
+}
+
+// `maximum`.
+fn greatest(tally: Tally) -> Tally {
+    let mut words: [u64; 1] = [7];
+    let fresh = with_capacity(10, &mut words);
+    let set = fresh.set;
+    let tally = found(
+        tally,
+        b"   Rust: with_capacity(10): maximum",
+        maximum(set, &words),
+        0,
+        u64::MAX,
     );
+    let tally = inserted(
+        tally,
+        b"   Rust: with_capacity(10), insert(8)",
+        set,
+        &mut words,
+        8,
+        0x100,
+    );
+    let tally = found(tally, b"   Rust: {8}: maximum", maximum(set, &words), 0, 8);
+    let tally = inserted(tally, b"   Rust: {8}, insert(2)", set, &mut words, 2, 0x104);
     found(
         tally,
-        b"   Rust: {2, 8}: maximum",
+        b"   Rust: {8, 2}: maximum",
         maximum(set, &words),
         0,
         8,
     )
 }
 
-fn greatest_first(tally: Tally) -> Tally {
-    let set = FixedBitSet::new(10);
-    let mut words: [u64; 1] = [0];
-    let answer = insert(set, &mut words, 8);
-    let tally = edited(
-        tally,
-        b"   Rust: with_capacity(10), insert(8)",
-        answer,
-        &words,
-        0,
-        10,
-        &[0x100],
-    );
-    found(tally, b"   Rust: {8}: maximum", maximum(set, &words), 0, 8)
+// [0, 1] of two bits and [0, 1, 0] of three.
+fn second_of(bits: usize, words: &mut [u64; 1]) -> Edited {
+    let fresh = with_capacity(bits, words);
+    insert(fresh.set, words, 1)
 }
 
+fn compared(a: Edited, words: &[u64; 1], b: Edited, other: &[u64; 1]) -> Told {
+    eq(a.set, words, b.set, other)
+}
+
+// "[0,1] is not equal to [0,1,0]".
+fn unequal(tally: Tally) -> Tally {
+    let mut words: [u64; 1] = [7];
+    let mut other: [u64; 1] = [7];
+    let two = second_of(2, &mut words);
+    let three = second_of(3, &mut other);
+    told(
+        tally,
+        b"   Rust: [0, 1] to [0, 1, 0]: eq",
+        compared(two, &words, three, &other),
+        0,
+        false,
+    )
+}
+
+// `is_full`.
 fn full(tally: Tally) -> Tally {
-    let set = FixedBitSet::new(10);
-    let mut words: [u64; 1] = [0];
+    let mut words: [u64; 1] = [7];
+    let fresh = with_capacity(10, &mut words);
+    let set = fresh.set;
     let tally = told(
         tally,
         b"   Rust: with_capacity(10): is_full",
@@ -195,9 +238,9 @@ fn full(tally: Tally) -> Tally {
 
 pub fn run(tally: Tally) -> Tally {
     let tally = blocks(tally);
-    let tally = fresh_set(tally);
     let tally = lengths(tally);
-    let tally = ends(tally);
-    let tally = greatest_first(tally);
-    full(tally)
+    let tally = least(tally);
+    let tally = greatest(tally);
+    let tally = full(tally);
+    unequal(tally)
 }
