@@ -7,6 +7,7 @@ pub mod NumberEnds
 pub mod SingleBit
 pub mod Quantifiers
 pub mod LowMasks
+pub mod ShiftMasks
 pub mod LowestBit
 pub mod Tabulate
 mod Examples
