@@ -1,3 +1,3 @@
 pub mod PartLaws
-pub mod WordSteps
 pub mod SelectLaws
+pub mod WordSearch

@@ -1,5 +1,5 @@
 -- The next position of a part, by the first or the last word that has one. Assumes nothing.
-use mathlib.Core.Path.{_≡_, refl, ap, ap₂, _∙_}
+use mathlib.Core.Path.{_≡_, refl, sym, ap, ap₂, _∙_}
 use mathlib.Core.Bool.{Bool, true, false, cond}
 use Prim.Native.Nat.{ℕ, zero, suc, _+_, _-_, _≤_, _<_}
 use native.Mathlib.Nat.{le-refl, add-sub-of-le}
@@ -7,12 +7,20 @@ use native.Mathlib.Omega.{arith}
 use borrow.Author.Tests.{lt-ltb, le-ltb}
 use lib.Dec.{ltb}
 use Rattle.word_bits.specs.Counts.{zerosBelow, zerosAbove}
-use Rattle.word_bits.proofs.Ends.{below-at, below-none, above-at, above-none}
+use Rattle.word_bits.proofs.Ends.{below-at, below-le, below-none, above-at, above-le, above-none}
 use Rattle.sets.specs.declared.answers.Position.the-variants.{At, Nothing}
 use Rattle.parts.specs.Steps.{taken, ahead, behind, front, back, step}
 use Rattle.parts.specs.declared.records.End.{End}
 use Rattle.parts.specs.declared.records.End.the-variants.{Front, Back}
 use Rattle.sets.specs.declared.answers.Part.{Part}
+
+-- ---- a part of no positions
+
+pub ahead-empty : (has : ℕ → Bool) (part : Part) → part .high ≤ part .low → part .low + ahead has part ≡ part .low
+ahead-empty has part h = let z = below-le (part .high - part .low) (λ j. has (part .low + j)) in omega (arith, z)
+
+pub behind-empty : (has : ℕ → Bool) (part : Part) → part .high ≤ part .low → part .high - behind has part ≡ part .high
+behind-empty has part h = let z = above-le (part .high - part .low) (λ j. has (part .low + j)) in omega (arith, z)
 
 -- ---- a step by its position
 
@@ -52,6 +60,36 @@ module _ (has : ℕ → Bool) (part : Part) where
         ap (λ (t : Bool). taken t (part .high - suc (behind has part)) (record { low = part .low; high = part .high - suc (behind has part) }) part)
         (lt-ltb (behind has part) (part .high - part .low) (omega (arith, z)))
         ∙ ap (λ (x : ℕ). record { at = At x; part = record { low = part .low; high = x } }) e
+
+-- ---- a step by what a search found: the next position, or high for none; one above it, or low for none
+
+module _ (has : ℕ → Bool) (part : Part) (r : ℕ) where
+  pub front-found : r ≡ part .low + ahead has part → r < part .high → record { at = At r; part = record { low = r + 1; high = part .high } } ≡ front has part
+  unfolding front
+  front-found e l =
+      ap (λ (p : ℕ). record { at = At p; part = record { low = p + 1; high = part .high } }) e
+      ∙ ap (λ (t : Bool). taken t (part .low + ahead has part) (record { low = part .low + ahead has part + 1; high = part .high }) part)
+      (sym (lt-ltb (ahead has part) (part .high - part .low) (omega arith)))
+
+  pub front-lacks : r ≡ part .low + ahead has part → part .high ≤ r → record { at = Nothing; part = part } ≡ front has part
+  unfolding front
+  front-lacks e g =
+      ap (λ (t : Bool). taken t (part .low + ahead has part) (record { low = part .low + ahead has part + 1; high = part .high }) part)
+      (sym (le-ltb (ahead has part) (part .high - part .low) (omega arith)))
+
+  pub back-found : r ≡ part .high - behind has part → part .low < r → record { at = At (r - 1); part = record { low = part .low; high = r - 1 } } ≡ back has part
+  unfolding back
+  back-found e l =
+      let p : r - 1 ≡ part .high - suc (behind has part) = omega arith in
+      ap (λ (q : ℕ). record { at = At q; part = record { low = part .low; high = q } }) p
+      ∙ ap (λ (t : Bool). taken t (part .high - suc (behind has part)) (record { low = part .low; high = part .high - suc (behind has part) }) part)
+      (sym (lt-ltb (behind has part) (part .high - part .low) (omega arith)))
+
+  pub back-lacks : r ≡ part .high - behind has part → r ≤ part .low → record { at = Nothing; part = part } ≡ back has part
+  unfolding back
+  back-lacks e g =
+      ap (λ (t : Bool). taken t (part .high - suc (behind has part)) (record { low = part .low; high = part .high - suc (behind has part) }) part)
+      (sym (le-ltb (behind has part) (part .high - part .low) (omega arith)))
 
 -- ---- a step depends on the positions of the part alone
 

@@ -1,68 +1,37 @@
 -- Selected words, by their digits. Assumes nothing.
-use mathlib.Core.Path.{_≡_, refl, ap, ap₂, _∙_}
-use mathlib.Core.Bool.{Bool, true, false, not, _&&_, _||_, xor}
+use mathlib.Core.Path.{_≡_, refl, ap, _∙_}
+use mathlib.Core.Bool.{Bool, _&&_}
 use mathlib.Core.List.{List}
 use Prim.Native.Nat.{ℕ, _-_, _/_, _%_, _^_, _<_}
 use native.Mathlib.Omega.{arith}
-use lib.Bits.{bitOr, bitXor, and-lt, or-lt, xor-lt}
+use lib.Bits.{and-lt}
 use lib.ListN.{getD}
+use lib.Pow.{ones-sub-lt}
 use Rattle.word_bits.specs.Digits.{digit, row}
-use Rattle.word_bits.proofs.Digits.{digit-of-zero}
-use Rattle.word_bits.proofs.Operations.{digit-and, digit-full, digit-or, digit-xor}
+use Rattle.word_bits.proofs.Operations.{digit-and, digit-not}
 use Rattle.sets.specs.Members.{bitOf}
-use Rattle.parts.specs.Selections.{chosenMasks, maskedSelect, selected, selectedAt}
+use Rattle.parts.specs.Helpers.{selectWord, selectedWord}
+use Rattle.parts.specs.Selections.{selected}
 use Rattle.parts.specs.declared.records.Selection.{Selection}
 use Rattle.parts.specs.declared.records.Selection.the-variants.{Ones, Zeroes, Intersection, Difference}
 
-pub select-lt : (flip away all x y : ℕ) → flip < 2 ^ 64 → away < 2 ^ 64 → all < 2 ^ 64 → x < 2 ^ 64 → y < 2 ^ 64 → maskedSelect flip away all x y < 2 ^ 64
-select-lt flip away all x y hf hw ha hx hy =
-    and-lt 64 (bitXor x flip) (bitOr (bitXor y away) all) (xor-lt 64 x flip hx hf) (or-lt 64 (bitXor y away) all (xor-lt 64 y away hy hw) ha)
+module _ (x y : ℕ) (hx : x < 2 ^ 64) (hy : y < 2 ^ 64) where
+  pub select-lt : (s : Selection) → selectWord s x y < 2 ^ 64
+  unfolding selectWord
+  select-lt Ones = hx
+  select-lt Zeroes = ones-sub-lt 64 x
+  select-lt Intersection = and-lt 64 x y hx hy
+  select-lt Difference = and-lt 64 x ((2 ^ 64 - 1) - y) hx (ones-sub-lt 64 y)
 
-pub select-digit : (flip away all x y j : ℕ)
-    → digit (maskedSelect flip away all x y) j ≡ (xor (digit x j) (digit flip j) && (xor (digit y j) (digit away j) || digit all j))
-select-digit flip away all x y j =
-    digit-and (bitXor x flip) (bitOr (bitXor y away) all) j
-    ∙ ap₂ _&&_ (digit-xor x flip j) (digit-or (bitXor y away) all j ∙ ap (λ (b : Bool). b || digit all j) (digit-xor y away j))
-
--- the masks of a selection select its bits
-pub chosen-digit : (s : Selection) (x y j : ℕ) → j < 64
-    → digit (maskedSelect (chosenMasks s .flip) (chosenMasks s .away) (chosenMasks s .all) x y) j ≡ selected s (digit x j) (digit y j)
-unfolding xor
-chosen-digit Ones x y j h =
-    select-digit 0 0 (2 ^ 64 - 1) x y j
-    ∙ ap₂ (λ (o f : Bool). xor (digit x j) o && (xor (digit y j) o || f)) (digit-of-zero j) (digit-full j h) ∙ go (digit x j) (digit y j)
-  where
-    go : (a b : Bool) → (xor a false && (xor b false || true)) ≡ a
-    go true true = refl
-    go true false = refl
-    go false b = refl
-chosen-digit Zeroes x y j h =
-    select-digit (2 ^ 64 - 1) 0 (2 ^ 64 - 1) x y j
-    ∙ ap₂ (λ (o f : Bool). xor (digit x j) f && (xor (digit y j) o || f)) (digit-of-zero j) (digit-full j h) ∙ go (digit x j) (digit y j)
-  where
-    go : (a b : Bool) → (xor a true && (xor b false || true)) ≡ not a
-    go true b = refl
-    go false true = refl
-    go false false = refl
-chosen-digit Intersection x y j h =
-    select-digit 0 0 0 x y j
-    ∙ ap (λ (o : Bool). xor (digit x j) o && (xor (digit y j) o || o)) (digit-of-zero j) ∙ go (digit x j) (digit y j)
-  where
-    go : (a b : Bool) → (xor a false && (xor b false || false)) ≡ (a && b)
-    go true true = refl
-    go true false = refl
-    go false b = refl
-chosen-digit Difference x y j h =
-    select-digit 0 (2 ^ 64 - 1) 0 x y j
-    ∙ ap₂ (λ (o f : Bool). xor (digit x j) o && (xor (digit y j) f || o)) (digit-of-zero j) (digit-full j h) ∙ go (digit x j) (digit y j)
-  where
-    go : (a b : Bool) → (xor a false && (xor b true || false)) ≡ (a && not b)
-    go true true = refl
-    go true false = refl
-    go false b = refl
+  select-digit : (s : Selection) (j : ℕ) → j < 64 → digit (selectWord s x y) j ≡ selected s (digit x j) (digit y j)
+  unfolding selectWord
+  select-digit Ones j h = refl
+  select-digit Zeroes j h = digit-not 64 x j hx h
+  select-digit Intersection j h = digit-and x y j
+  select-digit Difference j h = digit-and x ((2 ^ 64 - 1) - y) j ∙ ap (λ (b : Bool). digit x j && b) (digit-not 64 y j hy h)
 
 -- the bits of selected words are selected bits
-pub chosen-row : (s : Selection) (ws vs : List ℕ) (p : ℕ)
-    → row (selectedAt (chosenMasks s .flip) (chosenMasks s .away) (chosenMasks s .all) ws vs) p ≡ selected s (bitOf ws p) (bitOf vs p)
+pub select-row : (s : Selection) (ws vs : List ℕ) → ((k : ℕ) → getD ws k 0 < 2 ^ 64) → ((k : ℕ) → getD vs k 0 < 2 ^ 64) → (p : ℕ)
+    → row (selectedWord s ws vs) p ≡ selected s (bitOf ws p) (bitOf vs p)
 unfolding row bitOf
-chosen-row s ws vs p = chosen-digit s (getD ws (p / 64) 0) (getD vs (p / 64) 0) (p % 64) (omega arith)
+select-row s ws vs hw hv p = select-digit (getD ws (p / 64) 0) (getD vs (p / 64) 0) (hw (p / 64)) (hv (p / 64)) s (p % 64) (omega arith)

@@ -1,2 +1,3 @@
 pub mod Selections
 pub mod Steps
+pub mod Helpers

@@ -1,10 +1,13 @@
 // A part of a walk: its next position at the front and at the back, found word by word.
 mod records;
 mod search;
-mod selections;
+mod steps;
+mod words;
 
-pub use records::Chosen;
 pub use records::End;
 pub use records::Selection;
 pub use records::Step;
-pub use selections::step_selected;
+pub use search::back_selected;
+pub use search::front_selected;
+pub use steps::step_selected;
+pub use words::selected_word;

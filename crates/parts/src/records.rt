@@ -20,10 +20,3 @@ pub struct Step {
     pub at: Position,
     pub part: Part,
 }
-
-// Masks that are all ones or 0: the word flipped, the other word flipped, the other word left out.
-pub struct Chosen {
-    pub flip: u64,
-    pub away: u64,
-    pub all: u64,
-}

@@ -1,141 +1,106 @@
-use crate::records::Step;
-use blocks::block;
-use masks::Masks;
-use masks::range_mask;
-use sets::Part;
-use sets::Position;
+use crate::records::Selection;
+use crate::words::selected_word;
+use blocks::larger;
+use blocks::lesser;
 use word_bits::leading_zeros;
 use word_bits::trailing_zeros;
-ghost use mathlib.Core.Bool.{not};
 ghost use mathlib.Core.Path.{_≡_};
-ghost use Prim.Native.Nat.{ℕ, _+_, _-_, _/_};
-ghost use lib.Dec.{eqb};
-ghost use Rattle.word_bits.specs.Counts.{zerosBelow, zerosAbove};
-ghost use Rattle.word_bits.specs.Digits.{row};
-ghost use Rattle.masks.specs.Ranges.{endBlock};
-ghost use Rattle.parts.specs.Selections.{partWord, selectedAt};
-ghost use Rattle.parts.specs.Steps.{front, back};
+ghost use Prim.Native.Nat.{ℕ, _+_, _-_, _≤_};
+ghost use Rattle.sets.specs.Members.{bitOf};
+ghost use Rattle.parts.specs.Helpers.{FirstWord, LastWord, selectedWord};
+ghost use Rattle.parts.specs.Selections.{selected};
+ghost use Rattle.parts.specs.Steps.{ahead, behind};
 
-// The selected positions of word k in low..high. `flip`, `away` and `all` are all ones or 0: the word flipped, the other word flipped, the other word left out.
-fn part_word(
-    words: &[u64],
-    other: &[u64],
-    low: usize,
-    high: usize,
-    flip: u64,
-    away: u64,
-    all: u64,
-    k: usize,
-) -> u64
-    ensures { λ r. ⌜ r ≡ partWord flip away all (now (words .entry)) (now (other .entry)) low high k ⌝ }
+// The first word of first..end that has a selected position, or the end.
+fn next_word(words: &[u64], other: &[u64], selection: Selection, first: usize, end: usize) -> usize
+    requires { ⌜ first ≤ end ⌝ }
+    ensures { λ r. ⌜ FirstWord (selectedWord selection (now (words .entry)) (now (other .entry))) first end r ⌝ }
 {
-    ((block(words, k) ^ flip) & ((block(other, k) ^ away) | all)) & range_mask(low, high, k)
-}
-
-// The first word that has a selected position: the end of the words that low..high meets where there is none.
-fn first_word(
-    words: &[u64],
-    other: &[u64],
-    low: usize,
-    high: usize,
-    flip: u64,
-    away: u64,
-    all: u64,
-) -> usize
-    ensures { λ r. ⌜ r ≡ low / 64 + zerosBelow (endBlock low high - low / 64) (λ (i : ℕ). not (eqb (partWord flip away all (now (words .entry)) (now (other .entry)) low high (low / 64 + i)) 0)) ⌝ }
-{
-    let masks = Masks::new(low, high);
-    let end = masks.end_block;
-    let mut k = masks.first_block;
+    let mut k = first;
     loop {
         if end <= k {
             break k;
         }
-        if part_word(words, other, low, high, flip, away, all, k) != 0 {
+        if selected_word(words, other, selection, k) != 0 {
             break k;
         }
         k += 1;
     }
 }
 
-// One above the last word that has a selected position: 0 where there is none.
-fn above_last_word(
-    words: &[u64],
-    other: &[u64],
-    low: usize,
-    high: usize,
-    flip: u64,
-    away: u64,
-    all: u64,
-) -> usize
-    ensures { λ r. ⌜ r ≡ endBlock low high - zerosAbove (endBlock low high) (λ (k : ℕ). not (eqb (partWord flip away all (now (words .entry)) (now (other .entry)) low high k) 0)) ⌝ }
+// One above the last word of first..end that has a selected position, or the first.
+fn above_word(words: &[u64], other: &[u64], selection: Selection, first: usize, end: usize) -> usize
+    requires { ⌜ first ≤ end ⌝ }
+    ensures { λ r. ⌜ LastWord (selectedWord selection (now (words .entry)) (now (other .entry))) first end r ⌝ }
 {
-    let masks = Masks::new(low, high);
-    let first = masks.first_block;
-    let mut k = masks.end_block;
+    let mut k = end;
     loop {
         if k <= first {
-            break 0;
+            break k;
         }
-        if part_word(words, other, low, high, flip, away, all, k - 1) != 0 {
+        if selected_word(words, other, selection, k - 1) != 0 {
             break k;
         }
         k -= 1;
     }
 }
 
-// The smallest selected position of the part, and what is left of the part.
-pub(crate) fn front_step(
+// The smallest selected position from low up: high, where low <= high, if there is none below high.
+pub fn front_selected(
     words: &[u64],
     other: &[u64],
-    part: Part,
-    flip: u64,
-    away: u64,
-    all: u64,
-) -> Step
-    ensures { λ r. ⌜ r ≡ front (row (selectedAt flip away all (now (words .entry)) (now (other .entry)))) part ⌝ }
+    selection: Selection,
+    low: usize,
+    high: usize,
+) -> usize
+    ensures { λ r. ⌜ r ≡ low + ahead (λ (p : ℕ). selected selection (bitOf (now (words .entry)) p) (bitOf (now (other .entry)) p)) (record { low = low; high = high }) ⌝ }
 {
-    let low = part.low;
-    let high = part.high;
-    let k = first_word(words, other, low, high, flip, away, all);
-    let word = part_word(words, other, low, high, flip, away, all, k);
-    if word == 0 {
-        return Step {
-            at: Position::Nothing,
-            part,
-        };
+    if high <= low {
+        return low;
     }
-    let p = k * 64 + trailing_zeros(word);
-    Step {
-        at: Position::At(p),
-        part: Part { low: p + 1, high },
+    let first = low / 64;
+    let from = low % 64;
+    let word = selected_word(words, other, selection, first) & (u64::MAX << from);
+    if word != 0 {
+        return lesser(first * 64 + trailing_zeros(word), high);
     }
+    let end = (high - 1) / 64 + 1;
+    let k = next_word(words, other, selection, first + 1, end);
+    if end <= k {
+        return high;
+    }
+    lesser(
+        k * 64 + trailing_zeros(selected_word(words, other, selection, k)),
+        high,
+    )
 }
 
-// The largest selected position of the part, and what is left of the part.
-pub(crate) fn back_step(
+// One above the largest selected position below high: low, where low <= high, if there is none from low up.
+pub fn back_selected(
     words: &[u64],
     other: &[u64],
-    part: Part,
-    flip: u64,
-    away: u64,
-    all: u64,
-) -> Step
-    ensures { λ r. ⌜ r ≡ back (row (selectedAt flip away all (now (words .entry)) (now (other .entry)))) part ⌝ }
+    selection: Selection,
+    low: usize,
+    high: usize,
+) -> usize
+    ensures { λ r. ⌜ r ≡ high - behind (λ (p : ℕ). selected selection (bitOf (now (words .entry)) p) (bitOf (now (other .entry)) p)) (record { low = low; high = high }) ⌝ }
 {
-    let low = part.low;
-    let high = part.high;
-    let above = above_last_word(words, other, low, high, flip, away, all);
-    if above == 0 {
-        return Step {
-            at: Position::Nothing,
-            part,
-        };
+    if high <= low {
+        return high;
     }
-    let word = part_word(words, other, low, high, flip, away, all, above - 1);
-    let p = (above - 1) * 64 + (63 - leading_zeros(word));
-    Step {
-        at: Position::At(p),
-        part: Part { low, high: p },
+    let last = (high - 1) / 64;
+    let upto = 63 - (high - 1) % 64;
+    let word = selected_word(words, other, selection, last) & (u64::MAX >> upto);
+    if word != 0 {
+        return larger(last * 64 + (64 - leading_zeros(word)), low);
     }
+    let first = low / 64;
+    let above = above_word(words, other, selection, first, last);
+    if above <= first {
+        return low;
+    }
+    larger(
+        (above - 1) * 64 + (64 - leading_zeros(selected_word(words, other, selection, above - 1))),
+        low,
+    )
 }

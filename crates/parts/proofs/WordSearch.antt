@@ -1,0 +1,218 @@
+-- The next position of a part, by the first or the last word that has one. A word is cut to what the part has of it by a mask; the other words are taken whole. Assumes nothing.
+use mathlib.Core.Path.{_≡_, refl, sym, ap, _∙_}
+use mathlib.Core.Bool.{Bool, true, false, not, _&&_, and-true, false≢true}
+use mathlib.Core.Logic.{_⊎_, inl, inr}
+use Prim.Native.Nat.{ℕ, suc, _+_, _-_, _*_, _/_, _%_, _^_, _≤_, _<_, min, max}
+use native.Mathlib.Nat.{add-sub-of-le}
+use native.Mathlib.Omega.{arith}
+use borrow.Author.Tests.{lt-ltb, le-ltb, ltb-true, ltb-false, not-true}
+use lib.Bits.{bitAnd, and-lt}
+use lib.Dec.{ltb}
+use lib.Pow.{ones-sub-lt}
+use Rattle.word_bits.specs.Digits.{digit, row}
+use Rattle.word_bits.specs.Counts.{zerosBelow, zerosAbove}
+use Rattle.word_bits.proofs.Digits.{digit-of-zero, row-at}
+use Rattle.word_bits.proofs.Ends.{below-at, below-none, below-lt, below-no, below-yes, above-at, above-none, above-lt, above-no, above-yes}
+use Rattle.word_bits.specs.LowMask.{lowMask}
+use Rattle.word_bits.proofs.LowMasks.{low-mask-lt}
+use Rattle.word_bits.proofs.Order.{lt-or-le}
+use Rattle.word_bits.proofs.ShiftMasks.{digit-from, digit-upto}
+use Rattle.sets.specs.declared.answers.Part.{Part}
+use Rattle.parts.specs.Helpers.{FirstWord, LastWord}
+use Rattle.parts.specs.Steps.{ahead, behind}
+
+-- ---- a word x cut to g: the digits that `keep` says
+
+both-true : (a b : Bool) → (a && b) ≡ true → (a ≡ true) × (b ≡ true)
+both-true true b e = (refl, e)
+both-true false b e = absurd (false≢true e)
+
+module _ (x g : ℕ) (keep : ℕ → Bool) (fit : g < 2 ^ 64) (cut : (j : ℕ) → j < 64 → digit g j ≡ (digit x j && keep j)) where
+  -- a digit that is kept and is 0 in g is 0 in x
+  kept-no : (j : ℕ) → j < 64 → keep j ≡ true → digit g j ≡ false → digit x j ≡ false
+  kept-no j h k e = sym (and-true (digit x j)) ∙ ap (λ (b : Bool). digit x j && b) (sym k) ∙ sym (cut j h) ∙ e
+
+  pub cut-none : g ≡ 0 → (j : ℕ) → j < 64 → keep j ≡ true → digit x j ≡ false
+  cut-none z j h k = kept-no j h k (ap (λ (y : ℕ). digit y j) z ∙ digit-of-zero j)
+
+  module _ (n : g ≡ 0 → ⊥) where
+    pub lowest-lt : zerosBelow 64 (digit g) < 64
+    lowest-lt = below-lt 64 g (omega arith) fit
+
+    pub lowest-yes : (digit x (zerosBelow 64 (digit g)) ≡ true) × (keep (zerosBelow 64 (digit g)) ≡ true)
+    lowest-yes = both-true _ _ (sym (cut (zerosBelow 64 (digit g)) lowest-lt) ∙ below-yes 64 (digit g) lowest-lt)
+
+    pub lowest-no : (j : ℕ) → j < zerosBelow 64 (digit g) → keep j ≡ true → digit x j ≡ false
+    lowest-no j l k = kept-no j (omega (arith, lowest-lt)) k (below-no 64 (digit g) j l)
+
+    pub highest-lt : zerosAbove 64 (digit g) < 64
+    highest-lt = above-lt 64 g (omega arith) fit
+
+    pub highest-yes : (digit x (63 - zerosAbove 64 (digit g)) ≡ true) × (keep (63 - zerosAbove 64 (digit g)) ≡ true)
+    highest-yes =
+        let e : 64 - suc (zerosAbove 64 (digit g)) ≡ 63 - zerosAbove 64 (digit g) = omega arith in
+        both-true _ _ (sym (cut (63 - zerosAbove 64 (digit g)) (omega arith)) ∙ ap (digit g) (sym e) ∙ above-yes 64 (digit g) highest-lt)
+
+    pub highest-no : (j : ℕ) → j < 64 → 63 - zerosAbove 64 (digit g) < j → keep j ≡ true → digit x j ≡ false
+    highest-no j h l k = kept-no j h k (above-no 64 (digit g) j h (omega (arith, highest-lt)))
+
+-- ---- positions: bit j of word k is position 64 k + j
+
+module _ (f : ℕ → ℕ) where
+  in-word : (k q : ℕ) → k * 64 ≤ q → q < k * 64 + 64 → row f q ≡ digit (f k) (q - k * 64)
+  in-word k q a b = ap (row f) (sym (add-sub-of-le a)) ∙ row-at f k (q - k * 64) (omega arith)
+
+  zero-word : (q : ℕ) → f (q / 64) ≡ 0 → row f q ≡ false
+  unfolding row
+  zero-word q z = ap (λ (x : ℕ). digit x (q % 64)) z ∙ digit-of-zero (q % 64)
+
+  module _ (low high : ℕ) (h : low < high) where
+    -- what stands before the next position at either end
+    abbrev pub part : Part
+    part = record { low = low; high = high }
+
+    next-is : (p : ℕ) → low ≤ p → ((q : ℕ) → low ≤ q → q < p → row f q ≡ false) → (p < high → row f p ≡ true) → low + ahead (row f) part ≡ min p high
+    next-is p a zs y = go (lt-or-le p high)
+      where
+        go : (p < high) ⊎ (high ≤ p) → low + ahead (row f) part ≡ min p high
+        go (inl l) =
+            let z = below-at (high - low) (λ j. row f (low + j)) (p - low) (omega arith) (ap (row f) (add-sub-of-le a) ∙ y l) (λ j i. zs (low + j) (omega arith) (omega arith)) in
+            omega (arith, z)
+        go (inr g) =
+            let z = below-none (high - low) (λ j. row f (low + j)) (λ j i. zs (low + j) (omega arith) (omega arith)) in
+            omega (arith, z)
+
+    prev-is : (p : ℕ) → p ≤ high → ((q : ℕ) → p ≤ q → q < high → row f q ≡ false) → (low < p → row f (p - 1) ≡ true) → high - behind (row f) part ≡ max p low
+    prev-is p a zs y = go (lt-or-le low p)
+      where
+        go : (low < p) ⊎ (p ≤ low) → high - behind (row f) part ≡ max p low
+        go (inl l) =
+            let e : low + (p - 1 - low) ≡ p - 1 = omega arith in
+            let z = above-at (high - low) (λ j. row f (low + j)) (p - 1 - low) (omega arith) (ap (row f) e ∙ y l) (λ j i k. zs (low + j) (omega arith) (omega arith)) in
+            omega (arith, z)
+        go (inr g) =
+            let z = above-none (high - low) (λ j. row f (low + j)) (λ j i. zs (low + j) (omega arith) (omega arith)) in
+            omega (arith, z)
+
+    -- the first word, cut at low, and the words after it
+    module _ (fit : (k : ℕ) → f k < 2 ^ 64) where
+      abbrev pub firstCut : ℕ
+      firstCut = bitAnd (f (low / 64)) ((2 ^ 64 - 1) - lowMask (low % 64))
+
+      from-low : (j : ℕ) → low % 64 ≤ j → not (ltb j (low % 64)) ≡ true
+      from-low j l = ap not (le-ltb j (low % 64) l)
+
+      cut-first : (j : ℕ) → j < 64 → digit firstCut j ≡ (digit (f (low / 64)) j && not (ltb j (low % 64)))
+      cut-first j l = digit-from (f (low / 64)) (low % 64) j l
+
+      first-lt : firstCut < 2 ^ 64
+      first-lt = and-lt 64 (f (low / 64)) ((2 ^ 64 - 1) - lowMask (low % 64)) (fit (low / 64)) (ones-sub-lt 64 (lowMask (low % 64)))
+
+      pub here-lt : (firstCut ≡ 0 → ⊥) → zerosBelow 64 (digit firstCut) < 64
+      here-lt n = below-lt 64 firstCut (omega arith) first-lt
+
+      pub front-here : (firstCut ≡ 0 → ⊥) → low + ahead (row f) part ≡ min (low / 64 * 64 + zerosBelow 64 (digit firstCut)) high
+      front-here n =
+          let k = low / 64 in
+          let keep : ℕ → Bool = λ j. not (ltb j (low % 64)) in
+          let t = zerosBelow 64 (digit firstCut) in
+          let t-lt = lowest-lt (f k) firstCut keep first-lt cut-first n in
+          let yes = lowest-yes (f k) firstCut keep first-lt cut-first n in
+          let from = ltb-false t (low % 64) (not-true (ltb t (low % 64)) (yes .1)) in
+          next-is (k * 64 + t) (omega (arith, from))
+          (λ q a b. in-word k q (omega arith) (omega (arith, t-lt)) ∙ lowest-no (f k) firstCut keep first-lt cut-first n (q - k * 64) (omega arith) (from-low (q - k * 64) (omega arith)))
+          (λ l. row-at f k t t-lt ∙ yes .0)
+
+      module _ (z : firstCut ≡ 0) (k : ℕ) (found : FirstWord f (low / 64 + 1) ((high - 1) / 64 + 1) k) where
+        none-before : (q : ℕ) → low ≤ q → q < k * 64 → row f q ≡ false
+        none-before q a b = go (lt-or-le q (low / 64 * 64 + 64))
+          where
+            go : (q < low / 64 * 64 + 64) ⊎ (low / 64 * 64 + 64 ≤ q) → row f q ≡ false
+            go (inl l) =
+                in-word (low / 64) q (omega arith) l
+                ∙ cut-none (f (low / 64)) firstCut (λ j. not (ltb j (low % 64))) first-lt cut-first z (q - low / 64 * 64) (omega arith) (from-low (q - low / 64 * 64) (omega arith))
+            go (inr g) = zero-word q (found .before (q / 64) (omega arith) (omega arith))
+
+        pub front-over : (high - 1) / 64 + 1 ≤ k → low + ahead (row f) part ≡ high
+        front-over g =
+            let e : min high high ≡ high = omega arith in
+            next-is high (omega arith) (λ q a b. none-before q a (omega arith)) (λ l. absurd (omega arith)) ∙ e
+
+        pub front-later : k < (high - 1) / 64 + 1 → low + ahead (row f) part ≡ min (k * 64 + zerosBelow 64 (digit (f k))) high
+        front-later l =
+            let n = found .stops l in
+            let t = zerosBelow 64 (digit (f k)) in
+            let t-lt = below-lt 64 (f k) (omega arith) (fit k) in
+            next-is (k * 64 + t) (omega (arith, found .from))
+            (λ q a b. go q a b (lt-or-le q (k * 64)))
+            (λ i. row-at f k t t-lt ∙ below-yes 64 (digit (f k)) t-lt)
+          where
+            go : (q : ℕ) → low ≤ q → q < k * 64 + zerosBelow 64 (digit (f k)) → (q < k * 64) ⊎ (k * 64 ≤ q) → row f q ≡ false
+            go q a b (inl i) = none-before q a i
+            go q a b (inr g) =
+                let t-lt = below-lt 64 (f k) (omega (arith, found .stops l)) (fit k) in
+                in-word k q g (omega (arith, t-lt)) ∙ below-no 64 (digit (f k)) (q - k * 64) (omega arith)
+
+      -- the last word, cut at high, and the words before it
+      abbrev pub lastCut : ℕ
+      lastCut = bitAnd (f ((high - 1) / 64)) (lowMask ((high - 1) % 64 + 1))
+
+      below-high : (j : ℕ) → j < (high - 1) % 64 + 1 → ltb j ((high - 1) % 64 + 1) ≡ true
+      below-high j l = lt-ltb j ((high - 1) % 64 + 1) l
+
+      cut-last : (j : ℕ) → j < 64 → digit lastCut j ≡ (digit (f ((high - 1) / 64)) j && ltb j ((high - 1) % 64 + 1))
+      cut-last j l = digit-upto (f ((high - 1) / 64)) ((high - 1) % 64 + 1) j l
+
+      last-lt : lastCut < 2 ^ 64
+      last-lt = and-lt 64 (f ((high - 1) / 64)) (lowMask ((high - 1) % 64 + 1)) (fit ((high - 1) / 64)) (low-mask-lt ((high - 1) % 64 + 1))
+
+      module _ (n : lastCut ≡ 0 → ⊥) where
+        last-yes : (digit (f ((high - 1) / 64)) (63 - zerosAbove 64 (digit lastCut)) ≡ true) × (ltb (63 - zerosAbove 64 (digit lastCut)) ((high - 1) % 64 + 1) ≡ true)
+        last-yes = highest-yes (f ((high - 1) / 64)) lastCut (λ j. ltb j ((high - 1) % 64 + 1)) last-lt cut-last n
+
+        pub above-here : (zerosAbove 64 (digit lastCut) < 64) × ((high - 1) / 64 * 64 + (64 - zerosAbove 64 (digit lastCut)) ≤ high)
+        above-here =
+            let t-lt = above-lt 64 lastCut (omega arith) last-lt in
+            let upto = ltb-true (63 - zerosAbove 64 (digit lastCut)) ((high - 1) % 64 + 1) (last-yes .1) in
+            (t-lt, omega (arith, upto, t-lt))
+
+        pub back-here : high - behind (row f) part ≡ max ((high - 1) / 64 * 64 + (64 - zerosAbove 64 (digit lastCut))) low
+        back-here =
+            let k = (high - 1) / 64 in
+            let keep : ℕ → Bool = λ j. ltb j ((high - 1) % 64 + 1) in
+            let t = zerosAbove 64 (digit lastCut) in
+            let e : k * 64 + (64 - t) - 1 ≡ k * 64 + (63 - t) = omega (arith, above-here .0) in
+            prev-is (k * 64 + (64 - t)) (above-here .1)
+            (λ q a b. in-word k q (omega (arith, above-here .0)) (omega arith) ∙ highest-no (f k) lastCut keep last-lt cut-last n (q - k * 64) (omega arith) (omega (arith, above-here .0)) (below-high (q - k * 64) (omega arith)))
+            (λ l. ap (row f) e ∙ row-at f k (63 - t) (omega arith) ∙ last-yes .0)
+
+      module _ (z : lastCut ≡ 0) (k : ℕ) (found : LastWord f (low / 64) ((high - 1) / 64) k) where
+        none-after : (q : ℕ) → k * 64 ≤ q → q < high → row f q ≡ false
+        none-after q a b = go (lt-or-le q ((high - 1) / 64 * 64))
+          where
+            go : (q < (high - 1) / 64 * 64) ⊎ ((high - 1) / 64 * 64 ≤ q) → row f q ≡ false
+            go (inl l) = zero-word q (found .after (q / 64) (omega arith) (omega arith))
+            go (inr g) =
+                in-word ((high - 1) / 64) q g (omega arith)
+                ∙ cut-none (f ((high - 1) / 64)) lastCut (λ j. ltb j ((high - 1) % 64 + 1)) last-lt cut-last z (q - (high - 1) / 64 * 64) (omega arith) (below-high (q - (high - 1) / 64 * 64) (omega arith))
+
+        pub back-over : k ≤ low / 64 → high - behind (row f) part ≡ low
+        back-over g =
+            let e : max low low ≡ low = omega arith in
+            prev-is low (omega arith) (λ q a b. none-after q (omega arith) b) (λ l. absurd (omega arith)) ∙ e
+
+        pub back-later : low / 64 < k → high - behind (row f) part ≡ max ((k - 1) * 64 + (64 - zerosAbove 64 (digit (f (k - 1))))) low
+        back-later l =
+            let n = found .stops l in
+            let i = k - 1 in
+            let t = zerosAbove 64 (digit (f i)) in
+            let t-lt = above-lt 64 (f i) (omega arith) (fit i) in
+            let e : i * 64 + (64 - t) - 1 ≡ i * 64 + (64 - suc t) = omega (arith, t-lt) in
+            prev-is (i * 64 + (64 - t)) (omega (arith, found .upto))
+            (λ q a b. go q a b (lt-or-le q (k * 64)))
+            (λ j. ap (row f) e ∙ row-at f i (64 - suc t) (omega arith) ∙ above-yes 64 (digit (f i)) t-lt)
+          where
+            go : (q : ℕ) → (k - 1) * 64 + (64 - zerosAbove 64 (digit (f (k - 1)))) ≤ q → q < high → (q < k * 64) ⊎ (k * 64 ≤ q) → row f q ≡ false
+            go q a b (inl i) =
+                in-word (k - 1) q (omega arith) (omega arith) ∙ above-no 64 (digit (f (k - 1))) (q - (k - 1) * 64) (omega arith) (omega arith)
+            go q a b (inr g) = none-after q g b
