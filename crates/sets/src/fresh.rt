@@ -6,7 +6,6 @@ use blocks::block;
 use blocks::change_blocks;
 use blocks::copy_blocks;
 use blocks::lesser;
-use word_bits::low_mask;
 ghost use mathlib.Core.Path.{_≡_};
 ghost use Prim.Native.Nat.{_≤_};
 ghost use lib.ListN.{length};
@@ -43,7 +42,8 @@ fn fill_from(bits: usize, blocks: &[u64], words: &mut [u64])
     change_blocks(words, copied, whole, 0, 0);
     let rem = bits % 64;
     if rem != 0 {
-        words[whole] = block(blocks, whole) & low_mask(rem);
+        let above = 64 - rem;
+        words[whole] = block(blocks, whole) & (u64::MAX >> above);
     }
 }
 

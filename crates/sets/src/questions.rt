@@ -1,7 +1,6 @@
 use crate::answers::Part;
 use crate::fixed_bit_set::FixedBitSet;
 use crate::sizes::blocks_of;
-use word_bits::low_mask;
 ghost use mathlib.Core.Path.{_≡_};
 ghost use lib.ListN.{length};
 ghost use Rattle.sets.specs.Questions.{questions, positionQuestion, rangeQuestion, partQuestion, positionQuestions, rangeQuestions, partQuestions, newQuestions, bothQuestions};
@@ -14,16 +13,15 @@ pub fn check(set: FixedBitSet, words: &[u64]) -> u64
     if 65536 < length {
         return 1;
     }
-    if words.len() < blocks_of(length) {
-        return 2;
-    }
+    let whole = length / 64;
     let rem = length % 64;
     if rem == 0 {
-        return 0;
+        return if words.len() < whole { 2 } else { 0 };
     }
-    let last = length / 64;
-    let stray = words[last] & !low_mask(rem);
-    if stray == 0 { 0 } else { 3 }
+    if words.len() <= whole {
+        return 2;
+    }
+    if words[whole] >> rem == 0 { 0 } else { 3 }
 }
 
 // Question 4.

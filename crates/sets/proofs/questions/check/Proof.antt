@@ -1,6 +1,5 @@
 -- `sets::check` meets its contract. Assumes nothing.
 use mathlib.Core.Path.{sym}
-use Prim.Native.Nat.{_/_}
 use Rattle.sets.specs.Members.{wordsOf}
 use Rattle.sets.proofs.QuestionLaws.{question-1, question-2, valid-yes}
 use Rattle.sets.proofs.StrayLaws.{no-partial-word, clear-above, found-above}
@@ -13,39 +12,35 @@ returns : tie.Need-returns
 returns c = sym (question-1 _ _ (c .if1 .taken))
 
 returns-2 : tie.Need-returns-2
-returns-2 c = sym (question-2 _ _ (omega arith) (omega (arith, c .before .blocks-of .ensures, c .if2 .taken)))
+unfolding wordsOf
+returns-2 c = sym (question-2 _ _ (omega arith) (omega arith))
 
 returns-3 : tie.Need-returns-3
-returns-3 c =
-    sym (valid-yes _ _ (no-partial-word _ _ (omega arith) (omega (arith, c .before .before .blocks-of .ensures)) (c .if3 .taken)))
-
-shared-slice-read-stray : tie.Need-shared-slice-read-stray
 unfolding wordsOf
-shared-slice-read-stray c = omega (arith, c .before .before .before .blocks-of .ensures)
+returns-3 c = sym (valid-yes _ _ (no-partial-word _ _ (omega arith) (omega arith) (omega arith)))
 
 returns-4 : tie.Need-returns-4
-returns-4 c =
-    let w = c .before .before .before .before .before .blocks-of .ensures in
-    sym (valid-yes _ _ (clear-above _ _ (omega arith) (omega (arith, w)) (rw (c .before .low-mask .ensures) at (c .if4 .taken))))
+unfolding wordsOf
+returns-4 c = sym (question-2 _ _ (omega arith) (omega arith))
 
 returns-5 : tie.Need-returns-5
-returns-5 c =
-    let w = c .before .before .before .before .before .blocks-of .ensures in
-    let a = c .before .before .before .before .before .before .before .before .args in
-    sym (found-above _ _ (omega arith) (omega (arith, w)) (c .before .before .shared-slice-known2 .given (a .set .length / 64) .fits)
-    (c .before .before .before .if3 .left)
-    (λ z. c .if4 .left (rw (c .before .low-mask .ensures) z)))
+unfolding wordsOf
+returns-5 c = sym (valid-yes _ _ (clear-above _ _ (omega arith) (omega arith) (c .if5 .taken)))
+
+returns-6 : tie.Need-returns-6
+unfolding wordsOf
+returns-6 c = sym (found-above _ _ (omega arith) (omega arith) (c .before .shared-slice-known .given _ .fits) (omega arith) (c .if5 .left))
 
 pub check-spec : {M : Type 1} → statement M
 check-spec =
     tie.close
     (tie.spec
     returns
-    (λ c κs. search needs)
     returns-2
     returns-3
-    (λ c. search needs)
-    shared-slice-read-stray
-    (λ c κs. search needs)
     returns-4
-    returns-5)
+    (λ c. search needs)
+    (λ c. search needs)
+    (λ c. search needs)
+    returns-5
+    returns-6)
