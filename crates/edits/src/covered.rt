@@ -13,7 +13,7 @@ ghost use Rattle.edits.specs.Changes.{changedWord};
 pub(crate) fn change_covered(words: &mut [u64], start: usize, end: usize, change: Change)
     ensures { λ r. ⌜ now (words .exit) ≡ swept 0 (length (now (words .entry))) (λ (k w : ℕ). changedWord change (rangeMask start end k) w) (now (words .entry)) ⌝ }
 {
-    let masks = Masks::new(start, end);
+    let masks = Masks::by_shifts(start, end);
     let first = masks.first_block;
     let end_block = masks.end_block;
     if first < end_block {

@@ -1,3 +1,4 @@
 pub mod RangeLaws
 pub mod MaskLaws
+pub mod ShiftLaws
 mod Examples

@@ -14,7 +14,7 @@ use Rattle.word_bits.proofs.LowMasks.{digit-low-mask, digit-high-mask, low-mask
 use Rattle.word_bits.proofs.Operations.{digit-and, digit-not}
 use Rattle.word_bits.proofs.Order.{lt-or-le}
 use Rattle.masks.specs.Ranges.{covers, endBlock}
-use Rattle.masks.specs.RangeMasks.{rangeMask}
+use Rattle.masks.specs.RangeMasks.{rangeMask, masksOf}
 use Rattle.masks.proofs.RangeLaws.{covers-yes, covers-below, covers-above, end-block, end-block-empty}
 
 -- ---- from two low masks
@@ -81,3 +81,16 @@ module _ (start end k : ℕ) where
           (λ j h. digit-not 64 0 j (lit< tt) h ∙ ap not (digit-of-zero j)
           ∙ sym (covers-yes start end (k * 64 + j) (omega arith) (omega arith))))
       go (inr g) = absurd (omega (arith, end-block-empty start end g))
+
+-- ---- the masks of a range, where it covers no position and where it covers some
+
+pub masks-empty : (start end : ℕ) → end ≤ start
+    → record { «first_block» = start / 64; «end_block» = start / 64; «first_mask» = 0; «last_mask» = 0 } ≡ masksOf start end
+masks-empty start end h =
+    rw (mask-empty start end (start / 64), mask-empty start end (endBlock start end - 1), end-block-empty start end)
+
+pub masks-some : (start end : ℕ) {f l : ℕ} → start < end → f ≡ rangeMask start end (start / 64) → l ≡ rangeMask start end ((end - 1) / 64)
+    → record { «first_block» = start / 64; «end_block» = (end - 1) / 64 + 1; «first_mask» = f; «last_mask» = l } ≡ masksOf start end
+masks-some start end h p q =
+    let last : (end - 1) / 64 ≡ (end - 1) / 64 + 1 - 1 = omega arith in
+    rw (end-block start end, ← last, p, q)

@@ -51,4 +51,40 @@ impl Masks {
             last_mask: range_mask(start, end, last),
         }
     }
+
+    // The same masks with no table, for the calls that work. The shifts go by the first and the last position, not by the end: none is by 64.
+    pub fn by_shifts(start: usize, end: usize) -> Masks
+        ensures { λ r. ⌜ r ≡ masksOf start end ⌝ }
+    {
+        let first = start / 64;
+        if end <= start {
+            return Masks {
+                first_block: first,
+                end_block: first,
+                first_mask: 0,
+                last_mask: 0,
+            };
+        }
+        let top = end - 1;
+        let last = top / 64;
+        let below = start % 64;
+        let above = 63 - top % 64;
+        let from_start = u64::MAX << below;
+        let upto_end = u64::MAX >> above;
+        if first < last {
+            return Masks {
+                first_block: first,
+                end_block: last + 1,
+                first_mask: from_start,
+                last_mask: upto_end,
+            };
+        }
+        let mask = upto_end & from_start;
+        Masks {
+            first_block: first,
+            end_block: last + 1,
+            first_mask: mask,
+            last_mask: mask,
+        }
+    }
 }

@@ -30,7 +30,7 @@ fn ones_of(words: &[u64], start: usize, end: usize) -> usize
     requires { ⌜ (end ≤ length (now words) * 64) × (end ≤ 65536) ⌝ }
     ensures { λ r. ⌜ r ≡ count end (λ (p : ℕ). covers start end p && bitOf (now (words .entry)) p) ⌝ }
 {
-    let masks = Masks::new(start, end);
+    let masks = Masks::by_shifts(start, end);
     let first = masks.first_block;
     if masks.end_block <= first {
         return 0;

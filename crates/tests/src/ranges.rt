@@ -18,7 +18,7 @@ fn some_other(words: &[u64], start: usize, end: usize, skip: u64) -> bool
     requires { ⌜ end ≤ length (now words) * 64 ⌝ }
     ensures { λ r. ⌜ r ≡ some end (λ (p : ℕ). covers start end p && differs (now (words .entry)) skip p) ⌝ }
 {
-    let masks = Masks::new(start, end);
+    let masks = Masks::by_shifts(start, end);
     let first = masks.first_block;
     if masks.end_block <= first {
         return false;

@@ -17,22 +17,22 @@ add-change-whole c = omega (arith, c .before .if2 .taken)
 returns : tie.Need-returns
 returns c =
     let a = c .before .before .before .before .before .before .before .before .before .before .before .before .before .before .before .before .args in
-    let met : a .start / 64 < endBlock (a .start) (a .end) - 1 = rw (c .before .before .before .before .before .before .before .before .before .before .before .before .before .before .new .ensures) at (c .before .before .before .before .before .before .before .before .if2 .taken) in
-    rw (c .before .before .change-block2 .ensures, c .before .before .before .before .before .before .change-whole .ensures, c .before .before .before .before .before .before .before .before .before .before .before .change-block .ensures, c .before .before .before .before .before .before .before .before .before .before .before .before .before .before .new .ensures)
+    let met : a .start / 64 < endBlock (a .start) (a .end) - 1 = rw (c .before .before .before .before .before .before .before .before .before .before .before .before .before .before .by-shifts .ensures) at (c .before .before .before .before .before .before .before .before .if2 .taken) in
+    rw (c .before .before .change-block2 .ensures, c .before .before .before .before .before .before .change-whole .ensures, c .before .before .before .before .before .before .before .before .before .before .before .change-block .ensures, c .before .before .before .before .before .before .before .before .before .before .before .before .before .before .by-shifts .ensures)
     (many-words (a .change) (a .start) (a .end) (now (a .words)) (λ k. c .before .before .before .before .before .before .before .before .before .before .before .before .before .before .before .slice-known .given k .fits) met)
 
 returns-2 : tie.Need-returns-2
 returns-2 c =
     let a = c .before .before .before .before .before .before .before .before .args in
-    let met : a .start / 64 < endBlock (a .start) (a .end) = rw (c .before .before .before .before .before .before .new .ensures) at (c .before .before .before .before .before .if1 .taken) in
-    let end : endBlock (a .start) (a .end) - 1 ≤ a .start / 64 = rw (c .before .before .before .before .before .before .new .ensures) at (c .if2 .left) in
-    rw (c .before .before .before .change-block .ensures, c .before .before .before .before .before .before .new .ensures)
+    let met : a .start / 64 < endBlock (a .start) (a .end) = rw (c .before .before .before .before .before .before .by-shifts .ensures) at (c .before .before .before .before .before .if1 .taken) in
+    let end : endBlock (a .start) (a .end) - 1 ≤ a .start / 64 = rw (c .before .before .before .before .before .before .by-shifts .ensures) at (c .if2 .left) in
+    rw (c .before .before .before .change-block .ensures, c .before .before .before .before .before .before .by-shifts .ensures)
     (one-word (a .change) (a .start) (a .end) (now (a .words)) (λ k. c .before .before .before .before .before .before .before .slice-known .given k .fits) (omega arith))
 
 returns-3 : tie.Need-returns-3
 returns-3 c =
     let a = c .before .before .before .args in
-    no-word (a .change) (a .start) (a .end) (now (a .words)) (λ k. c .before .before .slice-known .given k .fits) (rw (c .before .new .ensures) at (c .if1 .left))
+    no-word (a .change) (a .start) (a .end) (now (a .words)) (λ k. c .before .before .slice-known .given k .fits) (rw (c .before .by-shifts .ensures) at (c .if1 .left))
 
 pub change-covered-spec : {M : Type 1} → statement M
 change-covered-spec =

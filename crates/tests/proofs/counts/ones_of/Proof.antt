@@ -15,28 +15,28 @@ use Rattle.tests.proofs.counts.ones_of.Statement.{statement}
 use Rattle.tests.proofs.counts.ones_of.Tie as tie
 
 returns : tie.Need-returns
-returns c = ones-empty _ _ _ (rw (c .before .before .new .ensures) at (c .if1 .taken))
+returns c = ones-empty _ _ _ (rw (c .before .before .by-shifts .ensures) at (c .if1 .taken))
 
 mul-count-ones : tie.Need-mul-count-ones
-mul-count-ones c = rw (c .before .before .before .new .ensures) (omega arith)
+mul-count-ones c = rw (c .before .before .before .by-shifts .ensures) (omega arith)
 
 shared-slice-read-count-ones : tie.Need-shared-slice-read-count-ones
 shared-slice-read-count-ones c =
-    let met = c .before .before .before .before .new .ensures in
+    let met = c .before .before .before .before .by-shifts .ensures in
     let m = meets _ _ (rw met at (c .before .before .if1 .left)) in
     rw met (omega (arith, m .some))
 
 returns-2 : tie.Need-returns-2
 returns-2 c =
-    let met = c .before .before .before .before .before .before .before .new .ensures in
+    let met = c .before .before .before .before .before .before .before .by-shifts .ensures in
     (rw met at (c .before .count-ones .ensures)) ∙ ones-one _ _ _ (rw met at (c .before .before .before .before .before .if1 .left)) (rw met at (c .if2 .taken))
 
 add-ones-between : tie.Need-add-ones-between
-add-ones-between c = rw (c .before .before .before .before .before .before .before .new .ensures) (omega arith)
+add-ones-between c = rw (c .before .before .before .before .before .before .before .by-shifts .ensures) (omega arith)
 
 ones-between-requires : tie.Need-ones-between-requires
 ones-between-requires c κs =
-    let met = c .before .before .before .before .before .before .before .new .ensures in
+    let met = c .before .before .before .before .before .before .before .by-shifts .ensures in
     let m = meets _ _ (rw met at (c .before .before .before .before .before .if1 .left)) in
     rw met (omega (arith, m .tight), omega (arith, m .tight))
 
@@ -50,7 +50,7 @@ known : (c : tie.After-ones-between)
     + onesAt (c .before .before .before .before .before .before .before .before .before .before .args .start) (c .before .before .before .before .before .before .before .before .before .before .args .end) (now (c .before .before .before .before .before .before .before .before .before .before .args .words)) (endBlock (c .before .before .before .before .before .before .before .before .before .before .args .start) (c .before .before .before .before .before .before .before .before .before .before .args .end) - 1)
     ≡ count (c .before .before .before .before .before .before .before .before .before .before .args .end) (counted c)
 known c =
-    let met = c .before .before .before .before .before .before .before .before .new .ensures in
+    let met = c .before .before .before .before .before .before .before .before .by-shifts .ensures in
     let a = c .before .before .before .before .before .before .before .before .before .before .args in
     let last = endBlock (a .start) (a .end) - 1 in
     let l = rw met at (c .before .if2 .left) in
@@ -63,20 +63,20 @@ add-result c = omega (arith, known c, count-le (c .before .before .before .befor
 
 mul-count-ones-2 : tie.Need-mul-count-ones-2
 mul-count-ones-2 c =
-    let met = c .before .before .before .before .before .before .before .before .new .ensures in
+    let met = c .before .before .before .before .before .before .before .before .by-shifts .ensures in
     let m = meets _ _ (rw met at (c .before .before .before .before .before .before .if1 .left)) in
     rw met (omega (arith, m .tight))
 
 shared-slice-read-count-ones-2 : tie.Need-shared-slice-read-count-ones-2
 shared-slice-read-count-ones-2 c =
-    let met = c .before .before .before .before .before .before .before .before .before .new .ensures in
+    let met = c .before .before .before .before .before .before .before .before .before .by-shifts .ensures in
     let m = meets _ _ (rw met at (c .before .before .before .before .before .before .before .if1 .left)) in
     rw met (omega (arith, m .tight))
 
 whole : (c : tie.After-count-ones2) → c .before .before .before .before .before .count-ones .result + c .before .before .before .ones-between .result + c .count-ones2 .result
     ≡ count (c .before .before .before .before .before .before .before .before .before .before .before .before .before .args .end) (counted (c .before .before .before))
 whole c =
-    ap (λ (n : ℕ). c .before .before .before .before .before .count-ones .result + c .before .before .before .ones-between .result + n) (rw (c .before .before .before .before .before .before .before .before .before .before .before .new .ensures) at (c .count-ones2 .ensures)) ∙ known (c .before .before .before)
+    ap (λ (n : ℕ). c .before .before .before .before .before .count-ones .result + c .before .before .before .ones-between .result + n) (rw (c .before .before .before .before .before .before .before .before .before .before .before .by-shifts .ensures) at (c .count-ones2 .ensures)) ∙ known (c .before .before .before)
 
 add-result-2 : tie.Need-add-result-2
 add-result-2 c = omega (arith, whole c, count-le (c .before .before .before .before .before .before .before .before .before .before .before .before .before .args .end) (counted (c .before .before .before)))

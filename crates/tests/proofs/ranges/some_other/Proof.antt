@@ -13,14 +13,14 @@ use Rattle.tests.proofs.ranges.some_other.Statement.{statement}
 use Rattle.tests.proofs.ranges.some_other.Tie as tie
 
 returns : tie.Need-returns
-returns c = sym (other-empty _ _ _ _ (rw (c .before .before .new .ensures) at (c .if1 .taken)))
+returns c = sym (other-empty _ _ _ _ (rw (c .before .before .by-shifts .ensures) at (c .if1 .taken)))
 
 mul-if2 : tie.Need-mul-if2
-mul-if2 c = rw (c .before .before .new .ensures) (omega arith)
+mul-if2 c = rw (c .before .before .by-shifts .ensures) (omega arith)
 
 shared-slice-read-if2 : tie.Need-shared-slice-read-if2
 shared-slice-read-if2 c =
-    let met = c .before .before .before .new .ensures in
+    let met = c .before .before .before .by-shifts .ensures in
     let m = meets _ _ (rw met at (c .before .if1 .left)) in
     rw met (omega (arith, m .some))
 
@@ -28,11 +28,11 @@ returns-2 : tie.Need-returns-2
 returns-2 c =
     let a = c .before .before .before .before .before .before .before .args in
     sym (other-at (a .start) (a .end) (a .skip) (now (a .words)) (c .before .before .before .before .before .before .before .fits .skip .fits) (a .start / 64) (c .before .before .shared-slice-known2 .given (a .start / 64) .fits)
-    (rw (c .before .before .before .before .before .new .ensures) at (c .if2 .taken)))
+    (rw (c .before .before .before .before .before .by-shifts .ensures) at (c .if2 .taken)))
 
 returns-3 : tie.Need-returns-3
 returns-3 c =
-    let met = c .before .before .before .before .before .before .before .new .ensures in
+    let met = c .before .before .before .before .before .before .before .by-shifts .ensures in
     sym (other-one _ _ _ _ (rw met at (c .if3 .taken)) (rw met at (c .before .before .if2 .left)))
 
 -- the search over the words between the first and the last ends in the slice
@@ -43,14 +43,14 @@ between : (c : tie.After-first-other)
     (endBlock (c .before .before .before .before .before .before .before .before .before .before .args .start) (c .before .before .before .before .before .before .before .before .before .before .args .end) - 1)
     (c .before .before .before .before .before .before .before .before .before .before .args .skip)
 between c =
-    let met = c .before .before .before .before .before .before .before .before .new .ensures in
+    let met = c .before .before .before .before .before .before .before .before .by-shifts .ensures in
     let m = meets _ _ (rw met at (c .before .before .before .before .before .before .if1 .left)) in
     let a = c .before .before .before .before .before .before .before .before .before .before .args in
     scan-whole (λ i. getD (now (a .words)) i 0) (a .start / 64 + 1) (endBlock (a .start) (a .end) - 1) (a .skip) (omega (arith, m .tight)) (rw met at (c .first-other .ensures))
 
 returns-4 : tie.Need-returns-4
 returns-4 c =
-    let met = c .before .before .before .before .before .before .before .before .before .new .ensures in
+    let met = c .before .before .before .before .before .before .before .before .before .by-shifts .ensures in
     let a = c .before .before .before .before .before .before .before .before .before .before .before .args in
     let w : ℕ → ℕ = λ i. getD (now (a .words)) i 0 in
     let l = rw met at (c .before .before .if3 .left) in
@@ -62,19 +62,19 @@ returns-4 c =
 
 mul-result : tie.Need-mul-result
 mul-result c =
-    let met = c .before .before .before .before .before .before .before .before .before .new .ensures in
+    let met = c .before .before .before .before .before .before .before .before .before .by-shifts .ensures in
     let m = meets _ _ (rw met at (c .before .before .before .before .before .before .before .if1 .left)) in
     rw met (omega (arith, m .tight))
 
 shared-slice-read-result : tie.Need-shared-slice-read-result
 shared-slice-read-result c =
-    let met = c .before .before .before .before .before .before .before .before .before .before .new .ensures in
+    let met = c .before .before .before .before .before .before .before .before .before .before .by-shifts .ensures in
     let m = meets _ _ (rw met at (c .before .before .before .before .before .before .before .before .if1 .left)) in
     rw met (omega (arith, m .tight))
 
 returns-5 : tie.Need-returns-5
 returns-5 c =
-    let met = c .before .before .before .before .before .before .before .before .before .before .before .new .ensures in
+    let met = c .before .before .before .before .before .before .before .before .before .before .before .by-shifts .ensures in
     let a = c .before .before .before .before .before .before .before .before .before .before .before .before .before .args in
     let last = endBlock (a .start) (a .end) - 1 in
     let w : ℕ → ℕ = λ i. getD (now (a .words)) i 0 in
