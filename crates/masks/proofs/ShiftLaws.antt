@@ -1,6 +1,6 @@
 -- The masks of the first and the last word that a range meets, as shifts of all ones make them. Assumes nothing.
 use mathlib.Core.Path.{_≡_, sym, ap, ap₂, _∙_}
-use Prim.Native.Nat.{ℕ, _-_, _*_, _/_, _%_, _^_, _≤_, _<_}
+use Prim.Native.Nat.{ℕ, _-_, _*_, _/_, _%_, _^_, _<_}
 use native.Mathlib.Nat.{mod-eq-of-lt}
 use native.Mathlib.Omega.{arith}
 use lib.Bits.{bitAnd, and-comm, and-mask}
@@ -52,7 +52,6 @@ module _ (start end : ℕ) where
       upto-end-is (omega arith) ∙ under-ones x (low-mask-lt (end - k * 64))
       ∙ ap (λ (r : ℕ). bitAnd x ((2 ^ 64 - 1) - lowMask r)) e ∙ mask-is start end k
 
-  pub only-mask : start < end → (end - 1) / 64 ≤ start / 64 → bitAnd uptoEnd fromStart ≡ rangeMask start end (start / 64)
-  only-mask l h =
-      let e : (end - 1) / 64 ≡ start / 64 = omega arith in
-      ap₂ bitAnd (upto-end-is (omega arith) ∙ ap (λ (k : ℕ). lowMask (end - k * 64)) e) from-start-is ∙ mask-is start end (start / 64)
+  pub only-mask : start < end → start / 64 ≡ (end - 1) / 64 → bitAnd uptoEnd fromStart ≡ rangeMask start end (start / 64)
+  only-mask l e =
+      ap₂ bitAnd (upto-end-is (omega arith) ∙ ap (λ (k : ℕ). lowMask (end - k * 64)) (sym e)) from-start-is ∙ mask-is start end (start / 64)

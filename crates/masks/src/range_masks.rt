@@ -71,20 +71,20 @@ impl Masks {
         let above = 63 - top % 64;
         let from_start = u64::MAX << below;
         let upto_end = u64::MAX >> above;
-        if first < last {
+        if first == last {
+            let mask = upto_end & from_start;
             return Masks {
                 first_block: first,
                 end_block: last + 1,
-                first_mask: from_start,
-                last_mask: upto_end,
+                first_mask: mask,
+                last_mask: mask,
             };
         }
-        let mask = upto_end & from_start;
         Masks {
             first_block: first,
             end_block: last + 1,
-            first_mask: mask,
-            last_mask: mask,
+            first_mask: from_start,
+            last_mask: upto_end,
         }
     }
 }

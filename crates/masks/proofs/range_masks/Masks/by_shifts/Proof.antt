@@ -1,6 +1,6 @@
 -- `masks::Masks::by_shifts` meets its contract. Assumes nothing.
-use mathlib.Core.Path.{_≡_, ap, _∙_}
-use Prim.Native.Nat.{ℕ, _-_, _/_}
+use mathlib.Core.Path.{ap, _∙_}
+use Prim.Native.Nat.{ℕ}
 use native.Mathlib.Omega.{arith}
 use Rattle.masks.specs.RangeMasks.{rangeMask}
 use Rattle.masks.proofs.MaskLaws.{masks-empty, masks-some}
@@ -13,15 +13,14 @@ returns : tie.Need-returns
 returns c = masks-empty _ _ (c .if1 .taken)
 
 returns-2 : tie.Need-returns-2
-returns-2 c = masks-some _ _ (c .before .if1 .left) (first-mask _ _ (c .if2 .taken)) (last-mask _ _ (c .if2 .taken))
-
-returns-3 : tie.Need-returns-3
-returns-3 c =
+returns-2 c =
     let s = c .before .before .args .start in
     let e = c .before .before .args .end in
-    let one : s / 64 ≡ (e - 1) / 64 = omega arith in
-    let only = only-mask s e (c .before .if1 .left) (c .if2 .left) in
-    masks-some s e (c .before .if1 .left) only (only ∙ ap (λ (k : ℕ). rangeMask s e k) one)
+    let only = only-mask s e (c .before .if1 .left) (c .if2 .taken) in
+    masks-some s e (c .before .if1 .left) only (only ∙ ap (λ (k : ℕ). rangeMask s e k) (c .if2 .taken))
+
+returns-3 : tie.Need-returns-3
+returns-3 c = masks-some _ _ (c .before .if1 .left) (first-mask _ _ (omega arith)) (last-mask _ _ (omega arith))
 
 pub by-shifts-spec : {M : Type 1} → statement M
 by-shifts-spec =
