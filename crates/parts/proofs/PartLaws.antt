@@ -11,6 +11,7 @@ use Rattle.word_bits.proofs.Ends.{below-at, below-le, below-none, above-at, abo
 use Rattle.sets.specs.declared.answers.Position.the-variants.{At, Nothing}
 use Rattle.parts.specs.Steps.{taken, ahead, behind, front, back, step}
 use Rattle.parts.specs.declared.records.End.{End}
+use Rattle.parts.specs.declared.records.Step.{Step}
 use Rattle.parts.specs.declared.records.End.the-variants.{Front, Back}
 use Rattle.sets.specs.declared.answers.Part.{Part}
 
@@ -90,6 +91,16 @@ module _ (has : ℕ → Bool) (part : Part) (r : ℕ) where
   back-lacks e g =
       ap (λ (t : Bool). taken t (part .high - suc (behind has part)) (record { low = part .low; high = part .high - suc (behind has part) }) part)
       (sym (le-ltb (behind has part) (part .high - part .low) (omega arith)))
+
+-- a front step gives a position, or none and the record as it was
+pub front-cases : (P : Step → Type 0) (has : ℕ → Bool) (part : Part) → ((p : ℕ) → P (record { at = At p; part = record { low = p + 1; high = part .high } }))
+    → P (record { at = Nothing; part = part }) → P (front has part)
+unfolding front
+front-cases P has part given lacks = go (ltb (ahead has part) (part .high - part .low))
+  where
+    go : (b : Bool) → P (taken b (part .low + ahead has part) (record { low = part .low + ahead has part + 1; high = part .high }) part)
+    go true = given (part .low + ahead has part)
+    go false = lacks
 
 -- ---- a step depends on the positions of the part alone
 

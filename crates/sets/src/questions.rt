@@ -3,7 +3,7 @@ use crate::fixed_bit_set::FixedBitSet;
 use crate::sizes::blocks_of;
 ghost use mathlib.Core.Path.{_≡_};
 ghost use lib.ListN.{length};
-ghost use Rattle.sets.specs.Questions.{questions, positionQuestion, rangeQuestion, partQuestion, positionQuestions, rangeQuestions, partQuestions, newQuestions, bothQuestions};
+ghost use Rattle.sets.specs.Questions.{questions, positionQuestion, rangeQuestion, partQuestion, positionQuestions, rangeQuestions, partQuestions, newQuestions, bothQuestions, twoQuestions, pairQuestions};
 
 // Questions 1 to 3. Only the last word can have a bit from the length up, and only where the length is no multiple of 64.
 pub fn check(set: FixedBitSet, words: &[u64]) -> u64
@@ -112,4 +112,37 @@ pub fn check_both(a: FixedBitSet, words: &[u64], b: FixedBitSet, other: &[u64]) 
         return number;
     }
     check(b, other)
+}
+
+// Questions 1 to 3 of both sets, then 8 of a part over the first.
+pub fn check_two(a: FixedBitSet, words: &[u64], b: FixedBitSet, other: &[u64], part: Part) -> u64
+    ensures { λ r. ⌜ r ≡ twoQuestions a (now (words .entry)) b (now (other .entry)) part ⌝ }
+{
+    let number = check_both(a, words, b, other);
+    if number != 0 {
+        return number;
+    }
+    ask_part(a, part)
+}
+
+// Questions 1 to 3 of both sets, then 8 of a part over the first and of a part over the second.
+pub fn check_pair(
+    a: FixedBitSet,
+    words: &[u64],
+    b: FixedBitSet,
+    other: &[u64],
+    one: Part,
+    two: Part,
+) -> u64
+    ensures { λ r. ⌜ r ≡ pairQuestions a (now (words .entry)) b (now (other .entry)) one two ⌝ }
+{
+    let number = check_both(a, words, b, other);
+    if number != 0 {
+        return number;
+    }
+    let number = ask_part(a, one);
+    if number != 0 {
+        return number;
+    }
+    ask_part(b, two)
 }

@@ -1,0 +1,3 @@
+pub mod ManyLaws
+pub mod FillLaws
+pub mod CallLaws

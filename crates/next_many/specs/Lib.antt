@@ -1,0 +1,3 @@
+pub mod Many
+pub mod Rules
+pub mod Helpers
