@@ -26,6 +26,8 @@ typedef struct { bool second; size_t offset; size_t count; } FbsLonger; /* a par
 typedef struct { size_t low; size_t high; } FbsPart;               /* the record of a part of a walk */
 typedef struct { uint64_t number; bool found; size_t at; FbsPart part; } FbsStepped;
 typedef struct { uint64_t number; bool found; size_t at; FbsPart one; FbsPart two; } FbsSteppedPair;
+typedef struct { uint64_t number; size_t count; FbsPart part; } FbsNextMany;
+typedef struct { uint64_t number; size_t count; FbsPart one; FbsPart two; } FbsNextManyPair;
 typedef struct { uint64_t number; FbsSet a; FbsSet b; size_t count; } FbsRan;
 
 /* one word */
@@ -109,6 +111,13 @@ FbsSteppedPair fbs_union_next(FbsSet a, const uint64_t *words, size_t size, FbsS
 FbsSteppedPair fbs_union_next_back(FbsSet a, const uint64_t *words, size_t size, FbsSet b, const uint64_t *other, size_t other_size, FbsPart one, FbsPart two);
 FbsSteppedPair fbs_symmetric_difference_next(FbsSet a, const uint64_t *words, size_t size, FbsSet b, const uint64_t *other, size_t other_size, FbsPart one, FbsPart two);
 FbsSteppedPair fbs_symmetric_difference_next_back(FbsSet a, const uint64_t *words, size_t size, FbsSet b, const uint64_t *other, size_t other_size, FbsPart one, FbsPart two);
+/* as many front steps as out has words, or as the walk has left: count positions at the start of out, its later words as they were */
+FbsNextMany fbs_ones_next_many(FbsSet set, const uint64_t *words, size_t size, FbsPart part, uint64_t *out, size_t out_size);
+FbsNextMany fbs_zeroes_next_many(FbsSet set, const uint64_t *words, size_t size, FbsPart part, uint64_t *out, size_t out_size);
+FbsNextMany fbs_intersection_next_many(FbsSet a, const uint64_t *words, size_t size, FbsSet b, const uint64_t *other, size_t other_size, FbsPart part, uint64_t *out, size_t out_size);
+FbsNextMany fbs_difference_next_many(FbsSet a, const uint64_t *words, size_t size, FbsSet b, const uint64_t *other, size_t other_size, FbsPart part, uint64_t *out, size_t out_size);
+FbsNextManyPair fbs_union_next_many(FbsSet a, const uint64_t *words, size_t size, FbsSet b, const uint64_t *other, size_t other_size, FbsPart one, FbsPart two, uint64_t *out, size_t out_size);
+FbsNextManyPair fbs_symmetric_difference_next_many(FbsSet a, const uint64_t *words, size_t size, FbsSet b, const uint64_t *other, size_t other_size, FbsPart one, FbsPart two, uint64_t *out, size_t out_size);
 /* a step of the walker that keeps the set's words: back is the end */
 FbsStepped fbs_walker_step(FbsSet set, const uint64_t *words, size_t size, FbsPart part, bool back);
 

@@ -3,6 +3,7 @@ mod answers;
 mod edit_calls;
 mod history_calls;
 mod join_calls;
+mod next_many_calls;
 mod pair_walk_calls;
 mod query_calls;
 mod two_set_calls;
