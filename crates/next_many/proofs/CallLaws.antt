@@ -2,15 +2,18 @@
 use mathlib.Core.Path.{_≡_, refl, sym, ap, ap₂, _∙_, fun-ext}
 use mathlib.Core.Bool.{Bool}
 use mathlib.Core.List.{List, _++_}
-use Prim.Native.Nat.{ℕ, _+_, _-_, _≤_}
+use Prim.Native.Nat.{ℕ, _+_, _-_, _*_, _≤_}
 use native.Mathlib.Nat.{sub-zero, zero-add}
 use native.Mathlib.Omega.{arith}
 use lib.ListN.{length, take, drop, length-append, length-drop}
-use lib.Seq.{take-at, drop-at, drop-drop}
+use lib.Seq.{length-take-le, take-at, drop-at, drop-drop}
 use Rattle.sets.specs.Members.{wordsOf, bitOf, read}
 use Rattle.sets.specs.declared.fixed_bit_set.FixedBitSet.{FixedBitSet}
 use Rattle.sets.specs.declared.answers.Part.{Part}
+use Rattle.sets.specs.Questions.{partQuestion}
 use Rattle.sets.proofs.QuestionLaws.{Valid}
+use Rattle.sets.proofs.RangeQuestionLaws.{part-within}
+use Rattle.sets.proofs.WordLaws.{words-hold}
 use Rattle.parts.specs.Selections.{selected}
 use Rattle.parts.specs.declared.records.Selection.{Selection}
 use Rattle.walks.proofs.WalkLaws.{slice-bits}
@@ -18,6 +21,12 @@ use Rattle.next_many.specs.Helpers.{FillOutcome, stored, filled}
 use Rattle.next_many.specs.Many.{Many, frontSteps, frontPairs}
 use Rattle.next_many.specs.Rules.{ManyOutcome, written, ManyPairOutcome, writtenPair}
 use Rattle.next_many.proofs.ManyLaws.{steps-high, steps-length, rest, pairs-are}
+
+-- a part lies within its set's own words
+pub own-room : (a : FixedBitSet) (ws : List ℕ) (part : Part) → Valid a ws → partQuestion a part ≡ 0 → {m : ℕ} → m ≡ wordsOf (a .length)
+    → part .high ≤ length (take m ws) * 64
+own-room a ws part v q {m} e =
+    rw (length-take-le m ws (omega (arith, v .enough))) (omega (arith, part-within a part q .inside, words-hold (a .length) .0))
 
 -- the members of two sets, by the bits of their own words
 pub member-bits : (s : Selection) (a : FixedBitSet) (ws : List ℕ) (b : FixedBitSet) (vs : List ℕ) → Valid a ws → Valid b vs → {m n : ℕ}

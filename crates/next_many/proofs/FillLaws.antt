@@ -174,3 +174,32 @@ module _ (f : ℕ → ℕ) (high : ℕ) (whole : FillOutcome) (size : ℕ) where
     same = s;
     to-come = t;
   }
+
+-- ---- an inner loop: the whole of where it starts, and the whole of the outer one
+
+module _ (f : ℕ → ℕ) (high : ℕ) where
+  pub filling-in : (whole : FillOutcome) (size : ℕ) {k rest n low : ℕ} {out : List ℕ} → Filling f high whole size k rest n low out
+      → Filling f high (filled (row f) high n low out) (length out) k rest n low out
+  filling-in whole size h = record {
+    fits = h .fits;
+    inside = h .inside;
+    near = h .near;
+    cut = h .cut;
+    kept = h .kept;
+    passed = h .passed;
+    same = refl;
+    to-come = refl;
+  }
+
+  pub filling-out : (whole : FillOutcome) (size : ℕ) {k rest n low k₀ rest₀ n₀ low₀ : ℕ} {out out₀ : List ℕ} → Filling f high whole size k₀ rest₀ n₀ low₀ out₀
+      → Filling f high (filled (row f) high n₀ low₀ out₀) (length out₀) k rest n low out → Filling f high whole size k rest n low out
+  filling-out whole size before h = record {
+    fits = h .fits;
+    inside = h .inside;
+    near = h .near;
+    cut = h .cut;
+    kept = h .kept;
+    passed = h .passed;
+    same = h .same ∙ before .same;
+    to-come = h .to-come ∙ before .to-come;
+  }

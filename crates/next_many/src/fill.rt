@@ -1,14 +1,16 @@
 use crate::answers::Filled;
+use blocks::block;
 use parts::Selection;
-use parts::selected_word;
+use parts::select_word;
 use word_bits::trailing_zeros;
 ghost use mathlib.Core.Path.{_≡_};
-ghost use Prim.Native.Nat.{ℕ};
+ghost use Prim.Native.Nat.{ℕ, _*_, _≤_};
+ghost use lib.ListN.{length};
 ghost use Rattle.sets.specs.Members.{bitOf};
 ghost use Rattle.parts.specs.Selections.{selected};
 ghost use Rattle.next_many.specs.Helpers.{fillOutcome, filled};
 
-// The selected positions of low..high, rising, into out[from..], as many as fit. `rest` is what is left of word k: high is asked of each position, so the last word needs no mask.
+// The selected positions of low..high, rising, into out[from..], as many as fit. `rest` is what is left of word k. High is asked of each position, so that no word but the first is cut.
 pub(crate) fn fill(
     words: &[u64],
     other: &[u64],
@@ -18,6 +20,7 @@ pub(crate) fn fill(
     out: &mut [u64],
     from: usize,
 ) -> Filled
+    requires { ⌜ high ≤ length (now words) * 64 ⌝ }
     ensures { λ r. ⌜ fillOutcome r (now (out .exit)) ≡ filled (λ (p : ℕ). selected selection (bitOf (now (words .entry)) p) (bitOf (now (other .entry)) p)) high from low (now (out .entry)) ⌝ }
 {
     if high <= low {
@@ -26,29 +29,27 @@ pub(crate) fn fill(
     let end = (high - 1) / 64 + 1;
     let bit = low % 64;
     let mut k = low / 64;
-    let mut rest = selected_word(words, other, selection, k) & (u64::MAX << bit);
+    let mut rest = select_word(words[k], block(other, k), selection) & (u64::MAX << bit);
     let mut count = from;
     let mut low = low;
     loop {
-        if rest == 0 {
-            k += 1;
-            if end <= k {
-                break;
-            }
-            rest = selected_word(words, other, selection, k);
-        } else {
+        while rest != 0 {
             let p = k * 64 + trailing_zeros(rest);
             if high <= p {
-                break;
+                return Filled { count, low };
             }
             if out.len() <= count {
-                break;
+                return Filled { count, low };
             }
             out[count] = p as u64;
             count += 1;
             low = p + 1;
             rest = rest & (rest - 1);
         }
+        k += 1;
+        if end <= k {
+            return Filled { count, low };
+        }
+        rest = select_word(words[k], block(other, k), selection);
     }
-    Filled { count, low }
 }

@@ -10,7 +10,7 @@ ghost use mathlib.Core.Path.{_≡_};
 ghost use Prim.Native.Nat.{ℕ};
 ghost use lib.ListN.{length};
 ghost use Rattle.sets.specs.Members.{read};
-ghost use Rattle.sets.specs.Questions.{questions, partQuestions, twoQuestions};
+ghost use Rattle.sets.specs.Questions.{questions, partQuestion, partQuestions, twoQuestions};
 ghost use Rattle.parts.specs.Selections.{selected};
 ghost use Rattle.next_many.specs.Many.{frontSteps};
 ghost use Rattle.next_many.specs.Rules.{manyOutcome, written, many, onesNextManyRule, zeroesNextManyRule, intersectionNextManyRule, differenceNextManyRule};
@@ -25,7 +25,7 @@ fn fill_part(
     part: Part,
     out: &mut [u64],
 ) -> NextMany
-    requires { ⌜ (questions a (now words) ≡ 0) × (questions b (now other) ≡ 0) ⌝ }
+    requires { ⌜ (questions a (now words) ≡ 0) × (questions b (now other) ≡ 0) × (partQuestion a part ≡ 0) ⌝ }
     ensures { λ r. ⌜ manyOutcome r (now (out .exit)) ≡ written (now (out .entry)) (frontSteps (length (now (out .entry))) (λ (p : ℕ). selected selection (read (now (words .entry)) a .has p) (read (now (other .entry)) b .has p)) part) ⌝ }
 {
     let own = blocks_of(a.length);

@@ -10,4 +10,4 @@ pub use records::Step;
 pub use search::back_selected;
 pub use search::front_selected;
 pub use steps::step_selected;
-pub use words::selected_word;
+pub use words::select_word;

@@ -12,8 +12,8 @@ returns c = given-no (λ m. record { number = m; count = 0; part = _; out = _ })
 
 fill-part-requires : tie.Need-fill-part-requires
 fill-part-requires c κs =
-    let q = first-both _ _ (sym (c .before .before .check-part .ensures) ∙ c .before .if1 .left) .0 in
-    (q, q)
+    let q = first-both _ _ (sym (c .before .before .check-part .ensures) ∙ c .before .if1 .left) in
+    (q .0, q .0, q .1)
 
 returns-2 : tie.Need-returns-2
 returns-2 c = given-yes _ (sym (c .before .before .before .before .if1 .left) ∙ c .before .before .before .before .before .check-part .ensures) (c .before .before .fill-part .ensures)

@@ -8,7 +8,7 @@ use lib.Seq.{length-take-le}
 use borrow.Author.Needs.{needs}
 use Rattle.sets.proofs.QuestionLaws.{valid}
 use Rattle.next_many.specs.Helpers.{filled}
-use Rattle.next_many.proofs.CallLaws.{member-bits, fill-written}
+use Rattle.next_many.proofs.CallLaws.{own-room, member-bits, fill-written}
 use Rattle.next_many.proofs.one_part.fill_part.Statement.{statement}
 use Rattle.next_many.proofs.one_part.fill_part.Tie as tie
 
@@ -23,6 +23,11 @@ slice-aggregate-fill-2 c =
     let s = c .before .before .before .before .before .before .before in
     let v = valid (s .args .b) (now (s .args .other)) (s .pre .1) in
     sym (length-take-le _ (now (s .args .other)) (omega (arith, v .enough, c .before .before .blocks-of2 .ensures)))
+
+fill-requires : tie.Need-fill-requires
+fill-requires c κs =
+    let s = c .before .before .before .before .before .before .before .before in
+    own-room (s .args .a) (now (s .args .words)) (s .args .part) (valid _ _ (s .pre .0)) (s .pre .2) (c .before .before .before .before .blocks-of .ensures)
 
 returns : tie.Need-returns
 returns c =
@@ -42,6 +47,6 @@ fill-part-spec =
     (λ c κs. search needs)
     slice-aggregate-fill
     slice-aggregate-fill-2
-    (λ c κs. search needs)
+    fill-requires
     (λ c. search needs)
     returns)

@@ -12,8 +12,9 @@ returns c = given-no (λ m. record { number = m; count = 0; part = _; out = _ })
 
 fill-part-requires : tie.Need-fill-part-requires
 fill-part-requires c κs =
-    let v = both-valid _ _ _ _ (first-both _ _ (sym (c .before .before .check-two .ensures) ∙ c .before .if1 .left) .0) in
-    (valid-yes _ _ (v .one), valid-yes _ _ (v .two))
+    let q = first-both _ _ (sym (c .before .before .check-two .ensures) ∙ c .before .if1 .left) in
+    let v = both-valid _ _ _ _ (q .0) in
+    (valid-yes _ _ (v .one), valid-yes _ _ (v .two), q .1)
 
 returns-2 : tie.Need-returns-2
 returns-2 c = given-yes _ (sym (c .before .before .before .before .if1 .left) ∙ c .before .before .before .before .before .check-two .ensures) (c .before .before .fill-part .ensures)
