@@ -11,7 +11,7 @@ ghost use Rattle.parts.specs.Selections.{selected};
 ghost use Rattle.next_many.specs.Helpers.{fillOutcome, filled};
 
 // The selected positions of low..high, rising, into out[from..], as many as fit. `rest` is what is left of word k. High is asked of each position, so that no word but the first is cut.
-pub(crate) fn fill(
+fn fill(
     words: &[u64],
     other: &[u64],
     selection: Selection,
@@ -51,5 +51,34 @@ pub(crate) fn fill(
             return Filled { count, low };
         }
         rest = select_word(words[k], block(other, k), selection);
+    }
+}
+
+// The same, with a loop of its own for each selection: the compiler makes one where the selection is a constant.
+pub(crate) fn fill_selected(
+    words: &[u64],
+    other: &[u64],
+    selection: Selection,
+    low: usize,
+    high: usize,
+    out: &mut [u64],
+    from: usize,
+) -> Filled
+    requires { ⌜ high ≤ length (now words) * 64 ⌝ }
+    ensures { λ r. ⌜ fillOutcome r (now (out .exit)) ≡ filled (λ (p : ℕ). selected selection (bitOf (now (words .entry)) p) (bitOf (now (other .entry)) p)) high from low (now (out .entry)) ⌝ }
+{
+    match selection {
+        Selection::Ones => fill(words, other, Selection::Ones, low, high, out, from),
+        Selection::Zeroes => fill(words, other, Selection::Zeroes, low, high, out, from),
+        Selection::Intersection => fill(
+            words,
+            other,
+            Selection::Intersection,
+            low,
+            high,
+            out,
+            from,
+        ),
+        Selection::Difference => fill(words, other, Selection::Difference, low, high, out, from),
     }
 }

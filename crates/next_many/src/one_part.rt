@@ -1,5 +1,5 @@
 use crate::answers::NextMany;
-use crate::fill::fill;
+use crate::fill::fill_selected;
 use parts::Selection;
 use sets::FixedBitSet;
 use sets::Part;
@@ -31,7 +31,7 @@ fn fill_part(
     let own = blocks_of(a.length);
     let others = blocks_of(b.length);
     let high = part.high;
-    let filled = fill(
+    let filled = fill_selected(
         &words[..own],
         &other[..others],
         selection,

@@ -1,5 +1,5 @@
 use crate::answers::NextManyPair;
-use crate::fill::fill;
+use crate::fill::fill_selected;
 use parts::Selection;
 use sets::FixedBitSet;
 use sets::Part;
@@ -39,7 +39,7 @@ fn fill_pair(
     let others = blocks_of(b.length);
     let first_high = one.high;
     let second_high = two.high;
-    let first = fill(
+    let first = fill_selected(
         &words[..own],
         &other[..others],
         selection,
@@ -48,7 +48,7 @@ fn fill_pair(
         out,
         0,
     );
-    let second = fill(
+    let second = fill_selected(
         &other[..others],
         &words[..own],
         Selection::Difference,

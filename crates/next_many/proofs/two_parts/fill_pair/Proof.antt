@@ -28,25 +28,25 @@ own c = omega (arith, asked (c .before .before) .sets .one .enough, c .before .b
 others : (c : tie.After-blocks-of2) → c .blocks-of2 .result ≤ length (now (c .before .before .before .before .before .before .before .args .other))
 others c = omega (arith, asked (c .before .before) .sets .two .enough, c .blocks-of2 .ensures)
 
-slice-aggregate-fill : tie.Need-slice-aggregate-fill
-slice-aggregate-fill c = sym (length-take-le _ _ (own (c .before)))
+slice-aggregate-fill-selected : tie.Need-slice-aggregate-fill-selected
+slice-aggregate-fill-selected c = sym (length-take-le _ _ (own (c .before)))
 
-slice-aggregate-fill-2 : tie.Need-slice-aggregate-fill-2
-slice-aggregate-fill-2 c = sym (length-take-le _ _ (others (c .before .before)))
+slice-aggregate-fill-selected-2 : tie.Need-slice-aggregate-fill-selected-2
+slice-aggregate-fill-selected-2 c = sym (length-take-le _ _ (others (c .before .before)))
 
-fill-requires : tie.Need-fill-requires
+fill-requires : tie.Need-fill-selected-requires
 fill-requires c κs =
     let b = c .before .before .before in
     let e = b .before .before in
     own-room _ _ (e .before .before .before .before .before .args .one) (asked e .sets .one) (asked e .first) (b .before .blocks-of .ensures)
 
-slice-aggregate-fill-3 : tie.Need-slice-aggregate-fill-3
-slice-aggregate-fill-3 c = sym (length-take-le _ _ (others (c .before .before .before .before .before .before .before)))
+slice-aggregate-fill-selected-3 : tie.Need-slice-aggregate-fill-selected-3
+slice-aggregate-fill-selected-3 c = sym (length-take-le _ _ (others (c .before .before .before .before .before .before .before)))
 
-slice-aggregate-fill-4 : tie.Need-slice-aggregate-fill-4
-slice-aggregate-fill-4 c = sym (length-take-le _ _ (own (c .before .before .before .before .before .before .before .before)))
+slice-aggregate-fill-selected-4 : tie.Need-slice-aggregate-fill-selected-4
+slice-aggregate-fill-selected-4 c = sym (length-take-le _ _ (own (c .before .before .before .before .before .before .before .before)))
 
-fill-requires-2 : tie.Need-fill-requires-2
+fill-requires-2 : tie.Need-fill-selected-requires-2
 fill-requires-2 c κs =
     let b = c .before .before .before .before .before .before .before .before .before in
     let e = b .before .before in
@@ -62,11 +62,11 @@ returns-2 c =
     let v = asked e .sets in
     given-yes _ (sym (e .if1 .left) ∙ e .before .check-pair .ensures)
     (pair-written _ _ (a .one) (a .two) (now (a .out))
-    (first .fill .ensures
+    (first .fill-selected .ensures
     ∙ ap (λ (has : ℕ → Bool). filled has (a .one .high) 0 (a .one .low) (now (a .out)))
     (member-bits (a .selection) (a .a) (now (a .words)) (a .b) (now (a .other)) (v .one) (v .two) (blocks .before .blocks-of .ensures) (blocks .blocks-of2 .ensures)))
-    (second .fill2 .ensures
-    ∙ ap (λ (has : ℕ → Bool). filled has (a .two .high) (first .fill .result .count) (a .two .low) (first .fill .last .1 .1 .1 .1 .1 .0))
+    (second .fill-selected2 .ensures
+    ∙ ap (λ (has : ℕ → Bool). filled has (a .two .high) (first .fill-selected .result .count) (a .two .low) (first .fill-selected .last .1 .1 .1 .1 .1 .0))
     (member-bits Difference (a .b) (now (a .other)) (a .a) (now (a .words)) (v .two) (v .one) (blocks .blocks-of2 .ensures) (blocks .before .blocks-of .ensures))))
 
 pub fill-pair-spec : {M : Type 1} → statement M
@@ -77,11 +77,11 @@ fill-pair-spec =
     returns
     (λ c κs. search needs)
     (λ c κs. search needs)
-    slice-aggregate-fill
-    slice-aggregate-fill-2
+    slice-aggregate-fill-selected
+    slice-aggregate-fill-selected-2
     fill-requires
-    slice-aggregate-fill-3
-    slice-aggregate-fill-4
+    slice-aggregate-fill-selected-3
+    slice-aggregate-fill-selected-4
     fill-requires-2
     (λ c. search needs)
     returns-2)
