@@ -127,7 +127,7 @@ module _ (i : Input) (go : questionsOf i ≡ 0) where
       let z = replayed e f g in
       let w = walked-over z h in
       let taken = take-at (map answerWord given-answers) (drop (length (i .steps)) (i .out)) (length (i .steps)) one-each in
-      let decoded = read-back given-answers (answers-below (i .walk) (stateOf i .a) (stateOf i .b) 65536 (map endOf (i .steps)) _ _ (k .a .sound .small) (k .b .sound .small)) in
+      let decoded = read-back given-answers (answers-below 65536 _ _ (map endOf (i .steps)) _ _ (k .a .sound .small) (k .b .sound .small)) in
       record {
         number = ap (λ (v : WalkOutcome). v .number) w;
         first-set = (ap (λ (v : ReplayOutcome). v .a) z, ap (λ (v : ReplayOutcome). v .words) z);

@@ -3,71 +3,36 @@ use crate::files::tell_repeats;
 use crate::texts::say;
 use crate::texts::say_number;
 use crate::texts::say_offsets;
-use parts::End;
 use sets::FixedBitSet;
-use sets::Part;
-use sets::Position;
 use std::num::wrapping_add_u64;
-use walks::first_part;
 use whole_walks::Walk;
 use whole_walks::walk_count;
-use whole_walks::walk_step;
+use whole_walks::walk_whole;
 
-struct Listed {
-    one: Part,
-    two: Part,
-    lines: u64,
-    goes_on: bool,
-}
-
-// One front step of the walk, and its position on a line of its own.
-fn list_one(words: &[u64], other: &[u64], walk: Walk, listed: Listed) -> Listed {
-    let set = FixedBitSet::new(65536);
-    let one = listed.one;
-    let two = listed.two;
-    let step = walk_step(set, words, set, other, walk, End::Front, one, two);
-    let at = step.at;
-    let first = step.one;
-    let second = step.two;
-    match at {
-        Position::At(offset) => {
-            say_number(offset as u64);
-            say(b"\n");
-            Listed {
-                one: first,
-                two: second,
-                lines: wrapping_add_u64(listed.lines, 1),
-                goes_on: true,
-            }
+// Each answer on a line of its own, up to the first that is none. Gives how many were listed.
+fn list_answers(answers: &[u64]) -> u64 {
+    let mut k = 0;
+    while k < answers.len() {
+        if answers[k] == u64::MAX {
+            return k as u64;
         }
-        Position::Nothing => Listed {
-            one: first,
-            two: second,
-            lines: listed.lines,
-            goes_on: false,
-        },
+        say_number(answers[k]);
+        say(b"\n");
+        k = k + 1;
     }
+    k as u64
 }
 
-// The walk from its first records on, up to its end. Gives how many positions were listed.
+// The walk from its first records on. Gives how many positions were listed: no list has more than 65,536.
 fn list_all(words: &[u64], other: &[u64], walk: Walk) -> u64 {
     let set = FixedBitSet::new(65536);
-    let mut now = Listed {
-        one: first_part(set),
-        two: first_part(set),
-        lines: 0,
-        goes_on: true,
-    };
-    let mut turns: u64 = 131073;
-    while turns > 0 {
-        turns -= 1;
-        let after = list_one(words, other, walk, now);
-        now = after;
-        if !now.goes_on {
-            return now.lines;
-        }
+    let steps: [u64; 65536] = [0; 65536];
+    let mut answers: [u64; 65536] = [0; 65536];
+    let walked = walk_whole(set, words, set, other, walk, &steps, &mut answers);
+    if walked.number != 0 {
+        return 0;
     }
-    now.lines
+    list_answers(&answers)
 }
 
 fn end_listing(listed: u64, count: u64, repeats: u64) {

@@ -1,26 +1,34 @@
 -- The rule of each step of a walk: a over ws, b over vs.
-use mathlib.Core.Bool.{Bool, not, _&&_}
+use mathlib.Core.Bool.{Bool, true, false, cond, not, _&&_}
 use mathlib.Core.List.{List}
 use Prim.Native.Nat.{ℕ}
-use Rattle.sets.specs.Members.{read, Members}
+use Rattle.sets.specs.Members.{bitOf, read, Members}
 use Rattle.sets.specs.Outcomes.{given}
 use Rattle.sets.specs.Questions.{partQuestions, twoQuestions, pairQuestions}
 use Rattle.sets.specs.declared.fixed_bit_set.FixedBitSet.{FixedBitSet}
 use Rattle.sets.specs.declared.answers.Position.the-variants.{Nothing, At}
+use Rattle.parts.specs.Selections.{selected}
 use Rattle.parts.specs.Steps.{front, back}
+use Rattle.parts.specs.declared.records.End.{End}
+use Rattle.parts.specs.declared.records.End.the-variants.{Front, Back}
+use Rattle.parts.specs.declared.records.Selection.{Selection}
 use Rattle.sets.specs.declared.answers.Part.{Part}
 use Rattle.parts.specs.declared.records.Step.{Step}
 use Rattle.walks.specs.declared.answers.Stepped.{Stepped}
 use Rattle.sets.specs.declared.answers.Position.{Position}
 use Rattle.walks.specs.declared.answers.SteppedPair.{SteppedPair}
+use Rattle.walks.specs.declared.rows.RowStep.{RowStep}
 
 -- at first 0 and L
 abbrev pub firstPart : FixedBitSet → Part
 firstPart set = record { low = 0; high = set .length }
 
--- refused, none and the record as handed in
+-- refused, none and the record as handed in; else what the step gives
+abbrev pub taken : Step → Stepped
+taken s = record { number = 0; at = s .at; part = s .part }
+
 abbrev pub stepped : ℕ → Part → Step → Stepped
-stepped n part s = given n (λ m. record { number = m; at = Nothing; part = part }) (record { number = 0; at = s .at; part = s .part })
+stepped n part s = given n (λ m. record { number = m; at = Nothing; part = part }) (taken s)
 
 -- `ones`: members of A, rising
 abbrev pub onesNextRule : FixedBitSet → List ℕ → Part → Stepped
@@ -46,32 +54,42 @@ differenceNextRule a ws b vs part = stepped (twoQuestions a ws b vs part) part (
 abbrev pub differenceNextBackRule : FixedBitSet → List ℕ → FixedBitSet → List ℕ → Part → Stepped
 differenceNextBackRule a ws b vs part = stepped (twoQuestions a ws b vs part) part (back (λ p. read ws a .has p && not (read vs b .has p)) part)
 
+-- which positions of lent words a part is, given the words of another set
+abbrev pub rowOf : Selection → List ℕ → List ℕ → ℕ → Bool
+rowOf selection ws vs p = selected selection (bitOf ws p) (bitOf vs p)
+
+abbrev pub orElse : Position → RowStep → RowStep → RowStep
+orElse (At p) x y = x
+orElse Nothing x y = y
+
+-- the part that is tried first decides where it gives a position, else the other; `second` tells whether the second is tried first
+abbrev pub tried : Bool → Step → Step → RowStep
+tried second s t = orElse (s .at) (record { second = second; at = s .at; part = s .part }) (record { second = not second; at = t .at; part = t .part })
+
+-- a front step tries the first part, then the second; a back step the second, then the first
+abbrev pub rowStep : End → (ℕ → Bool) → (ℕ → Bool) → Part → Part → RowStep
+rowStep Front f g one two = tried false (front f one) (front g two)
+rowStep Back f g one two = tried true (back g two) (back f one)
+
 -- a position or none, and both records
 pub record PairStep : Type 0 where
   pub at : Position
   pub one : Part
   pub two : Part
 
--- the part that is tried first decides where it gives a position
-abbrev pub orElse : Position → PairStep → PairStep → PairStep
-orElse (At p) x y = x
-orElse Nothing x y = y
+-- the part that was stepped has the record after the step, the other its own
+abbrev pub placed : Part → Part → RowStep → PairStep
+placed one two r = record { at = r .at; one = cond (r .second) one (r .part); two = cond (r .second) (r .part) two }
 
--- a front step tries the first part, then the second
-abbrev pub frontPair : (ℕ → Bool) → (ℕ → Bool) → Part → Part → PairStep
-frontPair f g one two = orElse (front f one .at)
-    (record { at = front f one .at; one = front f one .part; two = two })
-    (record { at = front g two .at; one = one; two = front g two .part })
+abbrev pub pairStep : End → (ℕ → Bool) → (ℕ → Bool) → Part → Part → PairStep
+pairStep end f g one two = placed one two (rowStep end f g one two)
 
--- a back step the second, then the first
-abbrev pub backPair : (ℕ → Bool) → (ℕ → Bool) → Part → Part → PairStep
-backPair f g one two = orElse (back g two .at)
-    (record { at = back g two .at; one = one; two = back g two .part })
-    (record { at = back f one .at; one = back f one .part; two = two })
+-- refused, none and both records as handed in; else what the step gives
+abbrev pub takenPair : PairStep → SteppedPair
+takenPair s = record { number = 0; at = s .at; one = s .one; two = s .two }
 
--- refused, none and both records as handed in
 abbrev pub steppedPair : ℕ → Part → Part → PairStep → SteppedPair
-steppedPair n one two s = given n (λ m. record { number = m; at = Nothing; one = one; two = two }) (record { number = 0; at = s .at; one = s .one; two = s .two })
+steppedPair n one two s = given n (λ m. record { number = m; at = Nothing; one = one; two = two }) (takenPair s)
 
 -- the members of the first that are not in the second
 abbrev pub without : Members → Members → ℕ → Bool
@@ -79,16 +97,16 @@ without s o p = s .has p && not (o .has p)
 
 -- `union`: members of A rising, then members of B not in A rising
 abbrev pub unionNextRule : FixedBitSet → List ℕ → FixedBitSet → List ℕ → Part → Part → SteppedPair
-unionNextRule a ws b vs one two = steppedPair (pairQuestions a ws b vs one two) one two (frontPair (read ws a .has) (without (read vs b) (read ws a)) one two)
+unionNextRule a ws b vs one two = steppedPair (pairQuestions a ws b vs one two) one two (pairStep Front (read ws a .has) (without (read vs b) (read ws a)) one two)
 
 abbrev pub unionNextBackRule : FixedBitSet → List ℕ → FixedBitSet → List ℕ → Part → Part → SteppedPair
-unionNextBackRule a ws b vs one two = steppedPair (pairQuestions a ws b vs one two) one two (backPair (read ws a .has) (without (read vs b) (read ws a)) one two)
+unionNextBackRule a ws b vs one two = steppedPair (pairQuestions a ws b vs one two) one two (pairStep Back (read ws a .has) (without (read vs b) (read ws a)) one two)
 
 -- `symmetric_difference`: A without B rising, then B without A rising
 abbrev pub symmetricDifferenceNextRule : FixedBitSet → List ℕ → FixedBitSet → List ℕ → Part → Part → SteppedPair
 symmetricDifferenceNextRule a ws b vs one two =
-    steppedPair (pairQuestions a ws b vs one two) one two (frontPair (without (read ws a) (read vs b)) (without (read vs b) (read ws a)) one two)
+    steppedPair (pairQuestions a ws b vs one two) one two (pairStep Front (without (read ws a) (read vs b)) (without (read vs b) (read ws a)) one two)
 
 abbrev pub symmetricDifferenceNextBackRule : FixedBitSet → List ℕ → FixedBitSet → List ℕ → Part → Part → SteppedPair
 symmetricDifferenceNextBackRule a ws b vs one two =
-    steppedPair (pairQuestions a ws b vs one two) one two (backPair (without (read ws a) (read vs b)) (without (read vs b) (read ws a)) one two)
+    steppedPair (pairQuestions a ws b vs one two) one two (pairStep Back (without (read ws a) (read vs b)) (without (read vs b) (read ws a)) one two)

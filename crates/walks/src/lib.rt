@@ -2,6 +2,7 @@
 mod answers;
 mod one_set;
 mod pairs;
+mod rows;
 mod two_parts;
 
 pub use answers::Stepped;
@@ -14,6 +15,9 @@ pub use pairs::difference_next;
 pub use pairs::difference_next_back;
 pub use pairs::intersection_next;
 pub use pairs::intersection_next_back;
+pub use rows::RowStep;
+pub use rows::own_words;
+pub use rows::step_rows;
 pub use two_parts::symmetric_difference_next;
 pub use two_parts::symmetric_difference_next_back;
 pub use two_parts::union_next;

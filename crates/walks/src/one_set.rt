@@ -1,4 +1,5 @@
 use crate::answers::Stepped;
+use crate::rows::own_words;
 use parts::End;
 use parts::Selection;
 use parts::step_selected;
@@ -25,7 +26,8 @@ fn one_step(set: FixedBitSet, words: &[u64], part: Part, selection: Selection, e
             part,
         };
     }
-    let taken = step_selected(words, words, part, selection, end);
+    let own = own_words(set, words);
+    let taken = step_selected(own, own, part, selection, end);
     let at = taken.at;
     let left = taken.part;
     Stepped {

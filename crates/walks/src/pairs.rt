@@ -1,11 +1,11 @@
 use crate::answers::Stepped;
+use crate::rows::own_words;
 use parts::End;
 use parts::Selection;
 use parts::step_selected;
 use sets::FixedBitSet;
 use sets::Part;
 use sets::Position;
-use sets::as_slice;
 use sets::ask_part;
 use sets::check_both;
 ghost use mathlib.Core.Path.{_≡_};
@@ -46,7 +46,9 @@ fn pair_step(
             part,
         };
     }
-    let taken = step_selected(words, as_slice(b, other), part, selection, end);
+    let own = own_words(a, words);
+    let others = own_words(b, other);
+    let taken = step_selected(own, others, part, selection, end);
     let at = taken.at;
     let left = taken.part;
     Stepped {

@@ -1,18 +1,18 @@
 use crate::answers::SteppedPair;
+use crate::rows::own_words;
+use crate::rows::step_rows;
 use parts::End;
 use parts::Selection;
-use parts::step_selected;
 use sets::FixedBitSet;
 use sets::Part;
 use sets::Position;
-use sets::as_slice;
 use sets::ask_part;
 use sets::check_both;
 ghost use mathlib.Core.Path.{_≡_};
 ghost use Prim.Native.Nat.{ℕ};
 ghost use Rattle.sets.specs.Members.{read};
 ghost use Rattle.parts.specs.Selections.{selected};
-ghost use Rattle.walks.specs.Rules.{frontPair, backPair, steppedPair, without, unionNextRule, unionNextBackRule, symmetricDifferenceNextRule, symmetricDifferenceNextBackRule};
+ghost use Rattle.walks.specs.Rules.{pairStep, steppedPair, without, unionNextRule, unionNextBackRule, symmetricDifferenceNextRule, symmetricDifferenceNextBackRule};
 ghost use Rattle.sets.specs.Questions.{pairQuestions};
 
 fn ask_parts(
@@ -36,7 +36,7 @@ fn ask_parts(
     ask_part(b, two)
 }
 
-fn front_pair(
+fn two_part_step(
     a: FixedBitSet,
     words: &[u64],
     b: FixedBitSet,
@@ -44,8 +44,9 @@ fn front_pair(
     one: Part,
     two: Part,
     selection: Selection,
+    end: End,
 ) -> SteppedPair
-    ensures { λ r. ⌜ r ≡ steppedPair (pairQuestions a (now (words .entry)) b (now (other .entry)) one two) one two (frontPair (λ (p : ℕ). selected selection (read (now (words .entry)) a .has p) (read (now (other .entry)) b .has p)) (without (read (now (other .entry)) b) (read (now (words .entry)) a)) one two) ⌝ }
+    ensures { λ r. ⌜ r ≡ steppedPair (pairQuestions a (now (words .entry)) b (now (other .entry)) one two) one two (pairStep end (λ (p : ℕ). selected selection (read (now (words .entry)) a .has p) (read (now (other .entry)) b .has p)) (without (read (now (other .entry)) b) (read (now (words .entry)) a)) one two) ⌝ }
 {
     let number = ask_parts(a, words, b, other, one, two);
     if number != 0 {
@@ -56,82 +57,24 @@ fn front_pair(
             two,
         };
     }
-    let step = step_selected(words, as_slice(b, other), one, selection, End::Front);
+    let own = own_words(a, words);
+    let others = own_words(b, other);
+    let step = step_rows(own, others, one, two, selection, end);
     let at = step.at;
     let left = step.part;
-    match at {
-        Position::At(p) => SteppedPair {
+    if step.second {
+        SteppedPair {
             number: 0,
-            at: Position::At(p),
-            one: left,
-            two,
-        },
-        Position::Nothing => {
-            let last = step_selected(
-                other,
-                as_slice(a, words),
-                two,
-                Selection::Difference,
-                End::Front,
-            );
-            let found = last.at;
-            let rest = last.part;
-            SteppedPair {
-                number: 0,
-                at: found,
-                one,
-                two: rest,
-            }
-        }
-    }
-}
-
-fn back_pair(
-    a: FixedBitSet,
-    words: &[u64],
-    b: FixedBitSet,
-    other: &[u64],
-    one: Part,
-    two: Part,
-    selection: Selection,
-) -> SteppedPair
-    ensures { λ r. ⌜ r ≡ steppedPair (pairQuestions a (now (words .entry)) b (now (other .entry)) one two) one two (backPair (λ (p : ℕ). selected selection (read (now (words .entry)) a .has p) (read (now (other .entry)) b .has p)) (without (read (now (other .entry)) b) (read (now (words .entry)) a)) one two) ⌝ }
-{
-    let number = ask_parts(a, words, b, other, one, two);
-    if number != 0 {
-        return SteppedPair {
-            number,
-            at: Position::Nothing,
-            one,
-            two,
-        };
-    }
-    let step = step_selected(
-        other,
-        as_slice(a, words),
-        two,
-        Selection::Difference,
-        End::Back,
-    );
-    let at = step.at;
-    let left = step.part;
-    match at {
-        Position::At(p) => SteppedPair {
-            number: 0,
-            at: Position::At(p),
+            at,
             one,
             two: left,
-        },
-        Position::Nothing => {
-            let last = step_selected(words, as_slice(b, other), one, selection, End::Back);
-            let found = last.at;
-            let rest = last.part;
-            SteppedPair {
-                number: 0,
-                at: found,
-                one: rest,
-                two,
-            }
+        }
+    } else {
+        SteppedPair {
+            number: 0,
+            at,
+            one: left,
+            two,
         }
     }
 }
@@ -147,7 +90,7 @@ pub fn union_next(
 ) -> SteppedPair
     ensures { λ r. ⌜ r ≡ unionNextRule a (now (words .entry)) b (now (other .entry)) one two ⌝ }
 {
-    front_pair(a, words, b, other, one, two, Selection::Ones)
+    two_part_step(a, words, b, other, one, two, Selection::Ones, End::Front)
 }
 
 // The same from the other end: the second part is tried first. Asks the same.
@@ -161,7 +104,7 @@ pub fn union_next_back(
 ) -> SteppedPair
     ensures { λ r. ⌜ r ≡ unionNextBackRule a (now (words .entry)) b (now (other .entry)) one two ⌝ }
 {
-    back_pair(a, words, b, other, one, two, Selection::Ones)
+    two_part_step(a, words, b, other, one, two, Selection::Ones, End::Back)
 }
 
 // The next member of the first set without the second, or, where that part is over, of the second without the first. Asks 1 to 3 of each set, then 8 of each part.
@@ -175,7 +118,16 @@ pub fn symmetric_difference_next(
 ) -> SteppedPair
     ensures { λ r. ⌜ r ≡ symmetricDifferenceNextRule a (now (words .entry)) b (now (other .entry)) one two ⌝ }
 {
-    front_pair(a, words, b, other, one, two, Selection::Difference)
+    two_part_step(
+        a,
+        words,
+        b,
+        other,
+        one,
+        two,
+        Selection::Difference,
+        End::Front,
+    )
 }
 
 // The same from the other end: the second part is tried first. Asks the same.
@@ -189,5 +141,14 @@ pub fn symmetric_difference_next_back(
 ) -> SteppedPair
     ensures { λ r. ⌜ r ≡ symmetricDifferenceNextBackRule a (now (words .entry)) b (now (other .entry)) one two ⌝ }
 {
-    back_pair(a, words, b, other, one, two, Selection::Difference)
+    two_part_step(
+        a,
+        words,
+        b,
+        other,
+        one,
+        two,
+        Selection::Difference,
+        End::Back,
+    )
 }

@@ -1,57 +1,55 @@
 -- The answers that the loop of a whole walk has stored. Assumes nothing.
 use mathlib.Core.Path.{_≡_, refl, sym, ap, ap₂, _∙_}
+use mathlib.Core.Bool.{Bool, false, _&&_}
 use mathlib.Core.List.{List, [], _∷_, _++_, append-nil, map}
 use Prim.Native.Nat.{ℕ, suc, _+_, _≤_, _<_}
 use native.Mathlib.Numerals.{add-one}
 use native.Mathlib.Omega.{arith}
 use lib.ListN.{length, getD, take, drop, set, length-set, take-append-drop}
 use lib.Seq.{take-suc-set, drop-set-lt, drop-cons, drop-length, append-snoc}
-use Rattle.sets.specs.Members.{read}
-use Rattle.sets.specs.declared.fixed_bit_set.FixedBitSet.{FixedBitSet}
-use Rattle.sets.specs.Questions.{bothQuestions, partQuestion}
-use Rattle.sets.proofs.RangeQuestionLaws.{part-yes}
-use Rattle.parts.specs.declared.records.End.{End}
+use denote.Ref.{RefT, now}
+use Rattle.sets.specs.Members.{wordsOf, Members, read}
+use Rattle.sets.specs.Rules.{SlicePart, firstWords}
 use Rattle.sets.specs.declared.answers.Part.{Part}
-use Rattle.walks.specs.Rules.{firstPart}
-use Rattle.walks.specs.Rules.{PairStep}
-use Rattle.walks.specs.declared.answers.SteppedPair.{SteppedPair}
-use Rattle.whole_walks.specs.Walks.{walkStep, answersFrom, answers}
-use Rattle.whole_walks.specs.Rules.{endOf, answerWord, walkStepRule}
+use Rattle.sets.specs.declared.answers.Position.{Position}
+use Rattle.sets.specs.declared.fixed_bit_set.FixedBitSet.{FixedBitSet}
+use Rattle.sets.proofs.QuestionLaws.{BothValid}
+use Rattle.parts.specs.Selections.{selected}
+use Rattle.parts.specs.declared.records.End.{End}
+use Rattle.parts.specs.declared.records.Selection.{Selection}
+use Rattle.parts.specs.declared.records.Selection.the-variants.{Difference}
+use Rattle.walks.specs.Rules.{firstPart, rowOf, rowStep, PairStep, pairStep, without}
+use Rattle.walks.proofs.WalkLaws.{own-row}
+use Rattle.walks.specs.declared.rows.RowStep.{RowStep}
+use Rattle.whole_walks.specs.Walks.{firstRow, secondRow, answersFrom, answers}
+use Rattle.whole_walks.specs.Rules.{selectionOf, nothingLeft, secondPart, recordsAfter, endOf, answerWord}
+use Rattle.whole_walks.specs.declared.whole.Records.{Records}
 use Rattle.whole_walks.specs.declared.walk.Walk.{Walk}
-use Rattle.whole_walks.proofs.RecordLaws.{walk-kept}
-use Rattle.whole_walks.proofs.RuleLaws.{accepted, step-accepted}
+use Rattle.whole_walks.specs.declared.walk.Walk.the-variants as Walk
+use Rattle.whole_walks.proofs.PartLists.{partLeft, left-none}
+use Rattle.whole_walks.proofs.WalkSteps.{bothLeft, nothing-left, row-good, same-answers}
 
-module _ (walk : Walk) (a : FixedBitSet) (ws : List ℕ) (b : FixedBitSet) (vs steps out₀ : List ℕ) where
+module _ (f g : ℕ → Bool) (steps : List ℕ) (one₀ two₀ : Part) (out₀ : List ℕ) where
   -- the words of the answers from step k on
   abbrev wordsFrom : ℕ → Part → Part → List ℕ
-  wordsFrom k one two = map answerWord (answersFrom walk (read ws a) (read vs b) (map endOf (drop k steps)) one two)
+  wordsFrom k one two = map answerWord (answersFrom f g (map endOf (drop k steps)) one two)
 
   -- and step k
   abbrev stepAt : ℕ → Part → Part → PairStep
-  stepAt k one two = walkStep walk (endOf (getD steps k 0)) (read ws a) (read vs b) one two
+  stepAt k one two = pairStep (endOf (getD steps k 0)) f g one two
 
   -- the buffer in the end
   abbrev pub answered : List ℕ
-  answered = map answerWord (answers walk (read ws a) (read vs b) (map endOf steps)) ++ drop (length steps) out₀
+  answered = map answerWord (answersFrom f g (map endOf steps) one₀ two₀) ++ drop (length steps) out₀
 
-  -- before step k: the records pass question 8, and with the answers yet to come the buffer is as it is in the end
+  -- before step k: with the answers yet to come the buffer is as it is in the end
   pub record Answered (one two : Part) (k : ℕ) (out : List ℕ) : Type 0 where
-    pub first : partQuestion a one ≡ 0
-    pub second : partQuestion b two ≡ 0
     pub passed : k ≤ length steps
     pub same : length out ≡ length out₀
     pub stored : take k out ++ wordsFrom k one two ++ drop (length steps) out ≡ answered
 
-  pub answered-none : {one two : Part} → one ≡ firstPart a → two ≡ firstPart b → Answered one two 0 out₀
-  unfolding read
-  answered-none e f =
-      rw (e, f) record {
-        first = part-yes a (firstPart a) (omega arith) (omega arith);
-        second = part-yes b (firstPart b) (omega arith) (omega arith);
-        passed = omega arith;
-        same = refl;
-        stored = refl;
-      }
+  pub answered-none : Answered one₀ two₀ 0 out₀
+  answered-none = record { passed = omega arith; same = refl; stored = refl }
 
   none-left : (one two : Part) → wordsFrom (length steps) one two ≡ []
   unfolding answersFrom
@@ -71,29 +69,57 @@ module _ (walk : Walk) (a : FixedBitSet) (ws : List ℕ) (b : FixedBitSet) (vs s
   unfolding answersFrom
   next-word k one two l = rw (drop-cons steps k 0 l)
 
-  module _ {one two : Part} {k : ℕ} {out : List ℕ} (h : Answered one two k out) (ok : bothQuestions a ws b vs ≡ 0) where
-    -- a step is not refused
-    pub number-zero : (end : End) {r : SteppedPair} → r ≡ walkStepRule a ws b vs walk end one two → r .number ≡ 0
-    number-zero end e = ap (λ (s : SteppedPair). s .number) (e ∙ step-accepted a ws b vs ok one two (h .first) (h .second) walk end)
+  -- the answer of a step is stored
+  pub answered-more : {one two : Part} {k : ℕ} {out : List ℕ} {end : End} {r : RowStep} {after : Records} {w : ℕ} → Answered one two k out
+      → end ≡ endOf (getD steps k 0) → r ≡ rowStep end f g one two → after ≡ recordsAfter one two end r → w ≡ answerWord (r .at)
+      → k < length steps → length steps ≤ length out₀ → Answered (after .one) (after .two) (k + 1) (set out k w)
+  answered-more {one} {two} {k} {out} h e st af v l room =
+      let n = length steps in
+      let t = endOf (getD steps k 0) in
+      let s = stepAt k one two in
+      let x = answerWord (s .at) in
+      let left = recordsAfter one two t (rowStep t f g one two) in
+      let rest = wordsFrom (suc k) (left .one) (left .two) in
+      let ends = map endOf (drop (suc k) steps) in
+      let later : rest ≡ wordsFrom (suc k) (s .one) (s .two) =
+      ap (λ (xs : List Position). map answerWord xs) (same-answers f g f g ends (left .one) (left .two) (s .one) (s .two) (row-good f g one two t .1)) in
+      rw (v, af, st, e, add-one k) record {
+        passed = l;
+        same = length-set out k x ∙ h .same;
+        stored =
+            ap₂ (λ (xs ys : List ℕ). xs ++ rest ++ ys) (take-suc-set out k x (omega arith)) (drop-set-lt n out k x l)
+            ∙ ap (λ (xs : List ℕ). xs ++ drop n out) (append-snoc (take k out) x rest)
+            ∙ ap (λ (xs : List ℕ). take k out ++ xs ++ drop n out) (ap (λ (xs : List ℕ). x ∷ xs) later ∙ sym (next-word k one two l)) ∙ h .stored;
+      }
 
-    -- and its answer is stored
-    pub answered-more : {end : End} {r : SteppedPair} {w : ℕ} → end ≡ endOf (getD steps k 0) → r ≡ walkStepRule a ws b vs walk end one two
-        → w ≡ answerWord (r .at) → k < length steps → length steps ≤ length out₀ → Answered (r .one) (r .two) (k + 1) (set out k w)
-    answered-more {r = r} f e v l room =
-        let n = length steps in
-        let s = stepAt k one two in
-        let x = answerWord (s .at) in
-        let rest = wordsFrom (suc k) (s .one) (s .two) in
-        let is : r ≡ accepted s = e ∙ ap (λ (t : End). walkStepRule a ws b vs walk t one two) f
-        ∙ step-accepted a ws b vs ok one two (h .first) (h .second) walk (endOf (getD steps k 0)) in
-        let kept = walk-kept walk (read ws a) (read vs b) (endOf (getD steps k 0)) a b one two (h .first) (h .second) in
-        rw (v, is, add-one k) record {
-          first = kept .0;
-          second = kept .1;
-          passed = l;
-          same = length-set out k x ∙ h .same;
-          stored =
-              ap₂ (λ (xs ys : List ℕ). xs ++ rest ++ ys) (take-suc-set out k x (omega arith)) (drop-set-lt n out k x l)
-              ∙ ap (λ (xs : List ℕ). xs ++ drop n out) (append-snoc (take k out) x rest)
-              ∙ ap (λ (xs : List ℕ). take k out ++ xs ++ drop n out) (sym (next-word k one two l)) ∙ h .stored;
-        }
+-- ---- the answers of a walk, by what its steps run on
+
+module _ (a : FixedBitSet) (slice : RefT (List ℕ)) (b : FixedBitSet) (other : RefT (List ℕ)) (v : BothValid a (now slice) b (now other)) where
+  abbrev A : Members
+  A = read (now slice) a
+
+  abbrev B : Members
+  B = read (now other) b
+
+  one-part : (f : ℕ → Bool) → bothLeft f (without B A) (firstPart a) nothingLeft ≡ bothLeft f (λ p. false) (firstPart a) (firstPart b)
+  one-part f = ap (λ (xs : List ℕ). partLeft f (firstPart a) ++ xs) (nothing-left (without B A) ∙ sym (left-none (λ p. false) (firstPart b) (λ p l h. refl)))
+
+  -- before the first step as much is left; a walk of one part has nothing in the second
+  at-first : (walk : Walk) → bothLeft (λ p. selected (selectionOf walk) (A .has p) (B .has p)) (without B A) (firstPart a) (secondPart walk b)
+      ≡ bothLeft (firstRow walk A B) (secondRow walk A B) (firstPart a) (firstPart b)
+  at-first Walk.Ones = one-part (A .has)
+  at-first Walk.Intersection = one-part (λ p. A .has p && B .has p)
+  at-first Walk.Difference = one-part (without A B)
+  at-first Walk.Union = refl
+  at-first Walk.SymmetricDifference = refl
+
+  pub walk-answers : (walk : Walk) (ends : List End) {own others : SlicePart} {one two : Part} {s : Selection}
+      → own ≡ firstWords slice (wordsOf (a .length)) → others ≡ firstWords other (wordsOf (b .length))
+      → one ≡ firstPart a → two ≡ secondPart walk b → s ≡ selectionOf walk
+      → answersFrom (rowOf s (own .words) (others .words)) (rowOf Difference (others .words) (own .words)) ends one two ≡ answers walk A B ends
+  unfolding read
+  walk-answers walk ends {own} {others} {one} {two} e f first second q =
+      let swapped : BothValid b (now other) a (now slice) = record { one = v .two; two = v .one } in
+      (λ i. answersFrom (rowOf (q i) (own .words) (others .words)) (rowOf Difference (others .words) (own .words)) ends (first i) (second i))
+      ∙ ap₂ (λ (g h : ℕ → Bool). answersFrom g h ends (firstPart a) (secondPart walk b)) (own-row (selectionOf walk) a slice b other v e f) (own-row Difference b other a slice swapped f e)
+      ∙ same-answers _ _ (firstRow walk A B) (secondRow walk A B) ends (firstPart a) (secondPart walk b) (firstPart a) (firstPart b) (at-first walk)

@@ -1,4 +1,4 @@
--- The rules of a walk's step and of its count over sets that pass their questions, and question 7 of the buffer for the answers. Assumes nothing.
+-- The rule of a walk's count over sets that pass their questions, and question 7 of the buffer for the answers. Assumes nothing.
 use mathlib.Core.Path.{_≡_, sym, ap, _∙_}
 use mathlib.Core.Bool.{Bool, cond, _&&_}
 use mathlib.Core.List.{List}
@@ -13,56 +13,20 @@ use Rattle.masks.proofs.RangeLaws.{covers-yes}
 use Rattle.sets.proofs.RangeQuestionLaws.{range-yes}
 use Rattle.sets.specs.Members.{read}
 use Rattle.sets.specs.Outcomes.{given}
-use Rattle.sets.specs.Questions.{questions, rangeQuestions, bothQuestions, partQuestion, partQuestions, twoQuestions, pairQuestions}
+use Rattle.sets.specs.Questions.{questions, rangeQuestions, bothQuestions}
 use Rattle.sets.specs.declared.fixed_bit_set.FixedBitSet.{FixedBitSet}
 use Rattle.sets.proofs.QuestionLaws.{first-yes, valid-yes, both-valid}
 use Rattle.tests.specs.Tests.{onesIn}
 use Rattle.two_set_counts.specs.Lists.{onesList}
 use Rattle.two_set_counts.proofs.ListLaws.{length-positions}
-use Rattle.parts.specs.declared.records.End.{End}
-use Rattle.parts.specs.declared.records.End.the-variants.{Front, Back}
-use Rattle.sets.specs.declared.answers.Part.{Part}
-use Rattle.walks.specs.declared.answers.Stepped.{Stepped}
-use Rattle.walks.specs.Rules.{PairStep}
-use Rattle.walks.specs.declared.answers.SteppedPair.{SteppedPair}
-use Rattle.whole_walks.specs.Walks.{walkList, walkStep}
-use Rattle.whole_walks.specs.Rules.{alone, walkStepRule, walkCountRule, answersQuestion}
+use Rattle.whole_walks.specs.Walks.{walkList}
+use Rattle.whole_walks.specs.Rules.{walkCountRule, answersQuestion}
 use Rattle.whole_walks.specs.declared.walk.Walk.{Walk}
 use Rattle.whole_walks.specs.declared.walk.Walk.the-variants.{Ones, Intersection, Difference, Union, SymmetricDifference}
-
-pub alone-of : {r : SteppedPair} {s t : Stepped} {two : Part} → r ≡ alone s two → s ≡ t → r ≡ alone t two
-alone-of {two = two} e f = e ∙ ap (λ (s : Stepped). alone s two) f
-
--- a step that is not refused
-abbrev pub accepted : PairStep → SteppedPair
-accepted s = record { number = 0; at = s .at; one = s .one; two = s .two }
 
 module _ (a : FixedBitSet) (ws : List ℕ) (b : FixedBitSet) (vs : List ℕ) (ok : bothQuestions a ws b vs ≡ 0) where
   own : questions a ws ≡ 0
   own = valid-yes a ws (both-valid a ws b vs ok .one)
-
-  module _ (one two : Part) (p : partQuestion a one ≡ 0) (q : partQuestion b two ≡ 0) where
-    one-asked : partQuestions a ws one ≡ 0
-    one-asked = sym (first-yes own (sym p))
-
-    two-asked : twoQuestions a ws b vs one ≡ 0
-    two-asked = sym (first-yes ok (sym p))
-
-    pair-asked : pairQuestions a ws b vs one two ≡ 0
-    pair-asked = sym (first-yes ok (first-yes p (sym q)))
-
-    pub step-accepted : (walk : Walk) (end : End) → walkStepRule a ws b vs walk end one two ≡ accepted (walkStep walk end (read ws a) (read vs b) one two)
-    unfolding given
-    step-accepted Ones Front = rw one-asked
-    step-accepted Ones Back = rw one-asked
-    step-accepted Intersection Front = rw two-asked
-    step-accepted Intersection Back = rw two-asked
-    step-accepted Difference Front = rw two-asked
-    step-accepted Difference Back = rw two-asked
-    step-accepted Union Front = rw pair-asked
-    step-accepted Union Back = rw pair-asked
-    step-accepted SymmetricDifference Front = rw pair-asked
-    step-accepted SymmetricDifference Back = rw pair-asked
 
   -- `count_ones` over all of A
   all-asked : rangeQuestions a ws 0 (a .length) ≡ 0

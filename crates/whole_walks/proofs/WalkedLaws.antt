@@ -1,6 +1,6 @@
 -- A walk with any mix of front and back steps answers what it has to. Assumes nothing.
 use mathlib.Core.Path.{_≡_, refl, sym, ap, ap₂, _∙_}
-use mathlib.Core.Bool.{true, _&&_}
+use mathlib.Core.Bool.{Bool, false}
 use mathlib.Core.List.{List, [], _∷_, _++_, reverse, reverse-cons, append-assoc, append-nil}
 use Prim.Native.Nat.{ℕ, zero, suc, _+_, _<_}
 use native.Mathlib.Nat.{not-suc-le-zero, le-of-suc-le-suc, zero-add, suc-add}
@@ -12,19 +12,19 @@ use Rattle.sets.specs.Members.{Members, setOf}
 use Rattle.sets.proofs.WriteLaws.{Clipped}
 use Rattle.sets.specs.declared.answers.Position.{Position}
 use Rattle.sets.specs.declared.answers.Position.the-variants.{At, Nothing}
-use Rattle.two_set_counts.specs.Lists.{onesList, intersectionList, differenceList}
+use Rattle.two_set_counts.specs.Lists.{positions, onesList, intersectionList, differenceList}
 use Rattle.parts.specs.declared.records.End.{End}
 use Rattle.parts.specs.declared.records.End.the-variants.{Front, Back}
 use Rattle.sets.specs.declared.answers.Part.{Part}
-use Rattle.walks.specs.Rules.{firstPart}
-use Rattle.walks.specs.Rules.{without}
-use Rattle.whole_walks.specs.Walks.{walkList, firstList, secondList, walkStep, answersFrom, answers}
-use Rattle.whole_walks.specs.Walked.{isNothing, fronts, backs, rising, Walked, gave}
+use Rattle.walks.specs.Rules.{firstPart, pairStep}
+use Rattle.whole_walks.specs.Walks.{walkList, firstRow, secondRow, firstList, secondList, answersFrom, answers}
+use Rattle.whole_walks.specs.Walked.{isNothing, fronts, backs, Walked, gave}
 use Rattle.sets.specs.Outcomes.{positionOf}
 use Rattle.whole_walks.specs.declared.walk.Walk.{Walk}
 use Rattle.whole_walks.specs.declared.walk.Walk.the-variants.{Ones, Intersection, Difference, Union, SymmetricDifference}
 use Rattle.whole_walks.proofs.PartSteps.{Taken}
-use Rattle.whole_walks.proofs.WalkSteps.{remaining, remaining-first, walk-taken}
+use Rattle.whole_walks.proofs.PartLists.{left-first}
+use Rattle.whole_walks.proofs.WalkSteps.{bothLeft, row-good}
 use Rattle.whole_walks.proofs.Occurrences.{exact, rises}
 
 eqb-add : (c m n : ℕ) → eqb (c + m) (c + n) ≡ eqb m n
@@ -69,42 +69,47 @@ module _ (whole rest : List ℕ) where
             r .none k (le-of-suc-le-suc l)
             ∙ sym (ap (eqb (length (positionOf x) + gave (take k xs))) (taken-length x end t) ∙ eqb-add (length (positionOf x)) (gave (take k xs)) (length rest))
 
-module _ (walk : Walk) (a b : Members) where
-  run : (ends : List End) (one two : Part) → Run ends (answersFrom walk a b ends one two) (remaining walk a b one two)
+module _ (f g : ℕ → Bool) where
+  run : (ends : List End) (one two : Part) → Run ends (answersFrom f g ends one two) (bothLeft f g one two)
   unfolding answersFrom
-  run [] one two = record { answered = refl; middle = remaining walk a b one two; in-order = append-nil (remaining walk a b one two); none = λ k l. absurd (not-suc-le-zero l) }
+  run [] one two = record { answered = refl; middle = bothLeft f g one two; in-order = append-nil (bothLeft f g one two); none = λ k l. absurd (not-suc-le-zero l) }
   run (end ∷ ends) one two =
-      let s = walkStep walk end a b one two in
-      one-more (remaining walk a b one two) (remaining walk a b (s .one) (s .two)) ends (answersFrom walk a b ends (s .one) (s .two))
-      (s .at) end (walk-taken a b walk end one two) (run ends (s .one) (s .two))
+      let s = pairStep end f g one two in
+      one-more (bothLeft f g one two) (bothLeft f g (s .one) (s .two)) ends (answersFrom f g ends (s .one) (s .two))
+      (s .at) end (row-good f g one two end .0) (run ends (s .one) (s .two))
 
 -- ---- the lists, by their parts
 
+no-positions : (n : ℕ) → positions n (λ p. false) ≡ []
+unfolding positions
+no-positions zero = refl
+no-positions (suc n) = append-nil (positions n (λ p. false)) ∙ no-positions n
+
 module _ (a b : Members) where
+  -- a walk of one part
+  alone : (xs : List ℕ) → xs ++ positions (b .len) (λ p. false) ≡ xs
+  alone xs = ap (λ (ys : List ℕ). xs ++ ys) (no-positions (b .len)) ∙ append-nil xs
+
   in-parts : (walk : Walk) → firstList walk a b ++ secondList walk a b ≡ walkList walk a b
-  in-parts Ones = append-nil (onesList a)
-  in-parts Intersection = append-nil (intersectionList a b)
-  in-parts Difference = append-nil (differenceList a b)
+  in-parts Ones = alone (onesList a)
+  in-parts Intersection = alone (intersectionList a b)
+  in-parts Difference = alone (differenceList a b)
   in-parts Union = refl
   in-parts SymmetricDifference = refl
 
-  parts-rise : (walk : Walk) → (rising (firstList walk a b) ≡ true) × (rising (secondList walk a b) ≡ true)
-  parts-rise Ones = (rises (a .has) (a .len), refl)
-  parts-rise Intersection = (rises (λ p. a .has p && b .has p) (a .len), refl)
-  parts-rise Difference = (rises (without a b) (a .len), refl)
-  parts-rise Union = (rises (a .has) (a .len), rises (without b a) (b .len))
-  parts-rise SymmetricDifference = (rises (without a b) (a .len), rises (without b a) (b .len))
-
 pub walked : (walk : Walk) (a b : Members) → Clipped a → Clipped b → (ends : List End) → Walked walk a b ends (answers walk a b ends) (length (walkList walk a b))
 walked walk a b ca cb ends =
-    let r : Run ends (answers walk a b ends) (walkList walk a b) = rw (remaining-first a b walk) at (run walk a b ends (firstPart (setOf a)) (firstPart (setOf b))) in
+    let f = firstRow walk a b in
+    let g = secondRow walk a b in
+    let whole = ap₂ _++_ (left-first a f) (left-first b g) ∙ in-parts a b walk in
+    let r : Run ends (answers walk a b ends) (walkList walk a b) = rw whole at (run f g ends (firstPart (setOf a)) (firstPart (setOf b))) in
     record {
       answered = r .answered;
       middle = r .middle;
       in-order = r .in-order;
       exactly = λ p. exact a b ca cb p walk;
       parts = in-parts a b walk;
-      rises = parts-rise a b walk;
+      rises = (rises f (a .len), rises g (b .len));
       none = r .none;
       count-right = refl;
     }

@@ -1,20 +1,24 @@
-use crate::steps::walk_step;
 use crate::walk::Walk;
 use crate::walk_counts::walk_count;
 use parts::End;
+use parts::Selection;
 use sets::Counted;
 use sets::FixedBitSet;
+use sets::Part;
 use sets::Position;
 use sets::check_both;
+use walks::RowStep;
 use walks::first_part;
+use walks::own_words;
+use walks::step_rows;
 ghost use mathlib.Core.Path.{_≡_};
 ghost use mathlib.Core.List.{_++_, map};
 ghost use Prim.Native.Nat.{_≤_};
 ghost use lib.ListN.{length, drop};
-ghost use Rattle.sets.specs.Members.{read};
-ghost use Rattle.sets.specs.Questions.{bothQuestions};
-ghost use Rattle.whole_walks.specs.Walks.{answers};
-ghost use Rattle.whole_walks.specs.Rules.{endOf, answerWord, walkOutcome, walkRule};
+ghost use Rattle.parts.specs.declared.records.Selection.the-variants.{Difference};
+ghost use Rattle.walks.specs.Rules.{rowOf};
+ghost use Rattle.whole_walks.specs.Walks.{answersFrom};
+ghost use Rattle.whole_walks.specs.Rules.{selectionOf, secondPart, leftOf, recordsAfter, endOf, answerWord, walkOutcome, walkRule};
 
 fn end_of(number: u64) -> End
     ensures { λ r. ⌜ r ≡ endOf number ⌝ }
@@ -31,36 +35,103 @@ fn answer_word(at: Position) -> u64
     }
 }
 
-// The answers of the steps from the first records on. No step is refused, so the number is 0.
+fn selection_of(walk: Walk) -> Selection
+    ensures { λ r. ⌜ r ≡ selectionOf walk ⌝ }
+{
+    match walk {
+        Walk::Ones => Selection::Ones,
+        Walk::Intersection => Selection::Intersection,
+        Walk::Difference => Selection::Difference,
+        Walk::Union => Selection::Ones,
+        Walk::SymmetricDifference => Selection::Difference,
+    }
+}
+
+fn second_part(walk: Walk, b: FixedBitSet) -> Part
+    ensures { λ r. ⌜ r ≡ secondPart walk b ⌝ }
+{
+    let high = match walk {
+        Walk::Ones => 0,
+        Walk::Intersection => 0,
+        Walk::Difference => 0,
+        Walk::Union => b.length,
+        Walk::SymmetricDifference => b.length,
+    };
+    Part { low: 0, high }
+}
+
+fn left_of(at: Position, part: Part) -> Part
+    ensures { λ r. ⌜ r ≡ leftOf at part ⌝ }
+{
+    match at {
+        Position::At(p) => part,
+        Position::Nothing => Part { low: 0, high: 0 },
+    }
+}
+
+struct Records {
+    one: Part,
+    two: Part,
+}
+
+// A part that gave none is over for good, and is not searched again.
+fn records_after(one: Part, two: Part, end: End, step: RowStep) -> Records
+    ensures { λ r. ⌜ r ≡ recordsAfter one two end step ⌝ }
+{
+    let over = Part { low: 0, high: 0 };
+    let at = step.at;
+    let part = step.part;
+    let left = left_of(at, part);
+    match end {
+        End::Front => {
+            if step.second {
+                Records {
+                    one: over,
+                    two: left,
+                }
+            } else {
+                Records { one: left, two }
+            }
+        }
+        End::Back => {
+            if step.second {
+                Records { one, two: left }
+            } else {
+                Records {
+                    one: left,
+                    two: over,
+                }
+            }
+        }
+    }
+}
+
+// The answers of the steps from the records on.
 fn take_steps(
-    a: FixedBitSet,
     words: &[u64],
-    b: FixedBitSet,
     other: &[u64],
-    walk: Walk,
+    one: Part,
+    two: Part,
+    selection: Selection,
     steps: &[u64],
     out: &mut [u64],
-) -> u64
-    requires { ⌜ (bothQuestions a (now words) b (now other) ≡ 0) × (length (now steps) ≤ length (now out)) ⌝ }
-    ensures { λ r. ⌜ (r ≡ 0) × (now (out .exit) ≡ map answerWord (answers walk (read (now (words .entry)) a) (read (now (other .entry)) b) (map endOf (now (steps .entry)))) ++ drop (length (now (steps .entry))) (now (out .entry))) ⌝ }
+)
+    requires { ⌜ length (now steps) ≤ length (now out) ⌝ }
+    ensures { λ r. ⌜ now (out .exit) ≡ map answerWord (answersFrom (rowOf selection (now (words .entry)) (now (other .entry))) (rowOf Difference (now (other .entry)) (now (words .entry))) (map endOf (now (steps .entry))) one two) ++ drop (length (now (steps .entry))) (now (out .entry)) ⌝ }
 {
-    let mut one = first_part(a);
-    let mut two = first_part(b);
+    let mut first = one;
+    let mut second = two;
     let mut k = 0;
     while k < steps.len() {
-        let step = walk_step(a, words, b, other, walk, end_of(steps[k]), one, two);
-        if step.number != 0 {
-            return step.number;
-        }
+        let end = end_of(steps[k]);
+        let step = step_rows(words, other, first, second, selection, end);
         let at = step.at;
-        let first = step.one;
-        let second = step.two;
+        let after = records_after(first, second, end, step);
+        first = after.one;
+        second = after.two;
         out[k] = answer_word(at);
-        one = first;
-        two = second;
         k = k + 1;
     }
-    0
 }
 
 // A walk from its first records on, with a step for each number, and its count after them. The answers are written in the order of the steps.
@@ -85,9 +156,14 @@ pub fn walk_whole(
             count: 0,
         };
     }
-    let number = take_steps(a, words, b, other, walk, steps, out);
-    if number != 0 {
-        return Counted { number, count: 0 };
-    }
+    take_steps(
+        own_words(a, words),
+        own_words(b, other),
+        first_part(a),
+        second_part(walk, b),
+        selection_of(walk),
+        steps,
+        out,
+    );
     walk_count(a, words, b, other, walk)
 }

@@ -1,18 +1,14 @@
 -- `walks::one_step` meets its contract. Assumes nothing.
 use mathlib.Core.Path.{sym, ap, _∙_}
 use mathlib.Core.Bool.{Bool}
+use Prim.Native.Nat.{ℕ}
 use denote.Ref.{now}
-use Rattle.sets.specs.Members.{bitOf, read}
-use Rattle.sets.specs.Questions.{questions, partQuestion}
-use Rattle.sets.proofs.RangeQuestionLaws.{part-within}
 use Rattle.sets.proofs.OutcomeLaws.{given-no, given-yes}
-use Rattle.sets.proofs.QuestionLaws.{first-both}
-use Rattle.sets.proofs.ReadLaws.{read-below}
-use Rattle.parts.specs.Selections.{selected}
-use Rattle.parts.specs.declared.records.Step.{Step}
-use Rattle.parts.proofs.PartLaws.{step-ext}
+use Rattle.sets.proofs.QuestionLaws.{first-both, valid}
+use Rattle.parts.specs.Steps.{step}
+use Rattle.walks.specs.Rules.{taken}
+use Rattle.walks.proofs.WalkLaws.{own-row}
 use borrow.Author.Needs.{needs}
-use native.Mathlib.Omega.{arith}
 use Rattle.walks.proofs.one_set.one_step.Statement.{statement}
 use Rattle.walks.proofs.one_set.one_step.Tie as tie
 
@@ -21,15 +17,13 @@ returns c = given-no (λ m. record { number = m; at = _; part = _ }) _ (c .befor
 
 returns-2 : tie.Need-returns-2
 returns-2 c =
-    let a = c .before .before .before .before .before .args in
-    let ws = now (a .words) in
-    let asked = sym (c .before .before .if1 .left) ∙ c .before .before .before .check-part .ensures in
-    let high = part-within (a .set) (a .part) (first-both (questions (a .set) ws) (partQuestion (a .set) (a .part)) (sym asked) .1) .inside in
+    let a = c .before .before .before .before .before .before .args in
+    let asked = sym (c .before .before .before .if1 .left) ∙ c .before .before .before .before .check-part .ensures in
+    let v = valid (a .set) (now (a .words)) (first-both _ _ (sym asked) .0) in
+    let own = c .before .before .own-words .ensures in
     given-yes _ asked
-    (ap (λ (s : Step). record { number = 0; at = s .at; part = s .part })
-    (c .before .step-selected .ensures
-    ∙ step-ext (λ p. selected (a .selection) (bitOf ws p) (bitOf ws p)) (λ p. selected (a .selection) (read ws (a .set) .has p) (read ws (a .set) .has p)) (a .part)
-    (λ p l h. ap (λ (b : Bool). selected (a .selection) b b) (sym (read-below ws (a .set) p (omega (arith, high))))) (a .end)))
+    (ap taken (c .before .step-selected .ensures
+    ∙ ap (λ (f : ℕ → Bool). step (a .end) f (a .part)) (own-row (a .selection) (a .set) (a .words) (a .set) (a .words) (record { one = v; two = v }) own own)))
 
 pub one-step-spec : {M : Type 1} → statement M
 one-step-spec =
@@ -37,5 +31,6 @@ one-step-spec =
     (tie.spec
     (λ c κs. search needs)
     returns
+    (λ c κs. search needs)
     (λ c κs. search needs)
     returns-2)

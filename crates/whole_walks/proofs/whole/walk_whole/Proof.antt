@@ -1,13 +1,16 @@
 -- `whole_walks::whole::walk_whole` meets its contract. Assumes nothing.
-use mathlib.Core.Path.{sym, ap₂, _∙_}
-use mathlib.Core.List.{List}
+use mathlib.Core.Path.{sym, ap, ap₂, _∙_}
+use mathlib.Core.List.{List, _++_, map}
 use Prim.Native.Nat.{ℕ}
 use native.Mathlib.Omega.{arith}
 use denote.Ref.{now}
+use lib.ListN.{length, drop}
 use Rattle.sets.specs.declared.answers.Counted.{Counted}
+use Rattle.sets.specs.declared.answers.Position.{Position}
 use Rattle.sets.proofs.OutcomeLaws.{given-no, given-yes}
-use Rattle.sets.proofs.QuestionLaws.{first-no, first-yes}
-use Rattle.whole_walks.specs.Rules.{walkOutcome}
+use Rattle.sets.proofs.QuestionLaws.{first-no, first-yes, both-valid}
+use Rattle.whole_walks.specs.Rules.{answerWord, walkOutcome}
+use Rattle.whole_walks.proofs.AnswerLaws.{walk-answers}
 use Rattle.whole_walks.proofs.RuleLaws.{count-accepted, answers-yes, answers-no}
 use borrow.Author.Needs.{needs}
 use Rattle.whole_walks.proofs.whole.walk_whole.Statement.{statement}
@@ -22,15 +25,19 @@ returns-2 c =
     (first-yes (sym (c .before .before .check-both .ensures) ∙ c .before .if1 .left) (sym (answers-no _ _ (c .if2 .taken)))) (λ z. omega arith)
 
 returns-3 : tie.Need-returns-3
-returns-3 c = absurd (c .if3 .taken (c .before .before .before .take-steps .ensures .0))
-
-returns-4 : tie.Need-returns-4
-returns-4 c =
-    let a = c .before .before .before .before .before .before .before .before .before .before .before .before .before .args in
-    let ok = sym (c .before .before .before .before .before .before .before .before .check-both .ensures) ∙ c .before .before .before .before .before .before .before .if1 .left in
-    given-yes _ (first-yes ok (sym (answers-yes _ _ (c .before .before .before .before .before .before .if2 .left))))
+returns-3 c =
+    let s = c .before .before .before .before .before in
+    let passed = s .before .before .before .before .before in
+    let a = passed .before .before .before .before .before .before .before .args in
+    let ok = sym (passed .before .before .check-both .ensures) ∙ passed .before .if1 .left in
+    let v = both-valid (a .a) (now (a .words)) (a .b) (now (a .other)) ok in
+    given-yes _ (first-yes ok (sym (answers-yes _ _ (passed .if2 .left))))
     (ap₂ (λ (r : Counted) (out : List ℕ). walkOutcome r out)
-    (c .walk-count .ensures ∙ count-accepted (a .a) (now (a .words)) (a .b) (now (a .other)) ok (a .walk)) (c .before .before .before .before .take-steps .ensures .1))
+    (c .walk-count .ensures ∙ count-accepted (a .a) (now (a .words)) (a .b) (now (a .other)) ok (a .walk))
+    (c .before .before .before .take-steps .ensures
+    ∙ ap (λ (xs : List Position). map answerWord xs ++ drop (length (now (a .steps))) (now (a .out)))
+    (walk-answers (a .a) (a .words) (a .b) (a .other) v (a .walk) _ (s .before .before .before .before .own-words .ensures) (s .before .before .before .own-words2 .ensures)
+    (s .before .before .first-part .ensures) (s .before .second-part .ensures) (s .selection-of .ensures))))
 
 pub walk-whole-spec : {M : Type 1} → statement M
 walk-whole-spec =
@@ -40,8 +47,11 @@ walk-whole-spec =
     returns
     returns-2
     (λ c κs. search needs)
-    (λ c. search needs)
-    returns-3
+    (λ c κs. search needs)
+    (λ c κs. search needs)
+    (λ c κs. search needs)
+    (λ c κs. search needs)
+    (λ c κs. search needs)
     (λ c κs. search needs)
     (λ c. search needs)
-    returns-4)
+    returns-3)
