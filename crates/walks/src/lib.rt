@@ -16,7 +16,6 @@ pub use pairs::difference_next_back;
 pub use pairs::intersection_next;
 pub use pairs::intersection_next_back;
 pub use rows::RowStep;
-pub use rows::own_words;
 pub use rows::step_rows;
 pub use two_parts::symmetric_difference_next;
 pub use two_parts::symmetric_difference_next_back;

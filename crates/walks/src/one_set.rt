@@ -1,11 +1,9 @@
 use crate::answers::Stepped;
-use crate::rows::own_words;
+use crate::pairs::pair_step;
 use parts::End;
 use parts::Selection;
-use parts::step_selected;
 use sets::FixedBitSet;
 use sets::Part;
-use sets::Position;
 use sets::check_part;
 ghost use mathlib.Core.Path.{_≡_};
 ghost use Prim.Native.Nat.{ℕ};
@@ -18,23 +16,16 @@ ghost use Rattle.sets.specs.Questions.{partQuestions};
 fn one_step(set: FixedBitSet, words: &[u64], part: Part, selection: Selection, end: End) -> Stepped
     ensures { λ r. ⌜ r ≡ stepped (partQuestions set (now (words .entry)) part) part (step end (λ (p : ℕ). selected selection (read (now (words .entry)) set .has p) (read (now (words .entry)) set .has p)) part) ⌝ }
 {
-    let number = check_part(set, words, part);
-    if number != 0 {
-        return Stepped {
-            number,
-            at: Position::Nothing,
-            part,
-        };
-    }
-    let own = own_words(set, words);
-    let taken = step_selected(own, own, part, selection, end);
-    let at = taken.at;
-    let left = taken.part;
-    Stepped {
-        number: 0,
-        at,
-        part: left,
-    }
+    pair_step(
+        check_part(set, words, part),
+        set,
+        words,
+        set,
+        words,
+        part,
+        selection,
+        end,
+    )
 }
 
 // The least member that the record has left. Asks 1 to 3, then 8.

@@ -1,12 +1,13 @@
 use crate::answers::Stepped;
-use crate::rows::own_words;
 use parts::End;
 use parts::Selection;
-use parts::step_selected;
+use parts::back_selected;
+use parts::front_selected;
 use sets::FixedBitSet;
 use sets::Part;
 use sets::Position;
 use sets::ask_part;
+use sets::blocks_of;
 use sets::check_both;
 ghost use mathlib.Core.Path.{_≡_};
 ghost use Prim.Native.Nat.{ℕ};
@@ -27,7 +28,9 @@ fn ask_two(a: FixedBitSet, words: &[u64], b: FixedBitSet, other: &[u64], part: P
     ask_part(a, part)
 }
 
-fn pair_step(
+// `number` answers the questions of the step.
+pub(crate) fn pair_step(
+    number: u64,
     a: FixedBitSet,
     words: &[u64],
     b: FixedBitSet,
@@ -36,9 +39,9 @@ fn pair_step(
     selection: Selection,
     end: End,
 ) -> Stepped
+    requires { ⌜ number ≡ twoQuestions a (now words) b (now other) part ⌝ }
     ensures { λ r. ⌜ r ≡ stepped (twoQuestions a (now (words .entry)) b (now (other .entry)) part) part (step end (λ (p : ℕ). selected selection (read (now (words .entry)) a .has p) (read (now (other .entry)) b .has p)) part) ⌝ }
 {
-    let number = ask_two(a, words, b, other, part);
     if number != 0 {
         return Stepped {
             number,
@@ -46,15 +49,44 @@ fn pair_step(
             part,
         };
     }
-    let own = own_words(a, words);
-    let others = own_words(b, other);
-    let taken = step_selected(own, others, part, selection, end);
-    let at = taken.at;
-    let left = taken.part;
-    Stepped {
-        number: 0,
-        at,
-        part: left,
+    let own = &words[..blocks_of(a.length)];
+    let others = &other[..blocks_of(b.length)];
+    let low = part.low;
+    let high = part.high;
+    match end {
+        End::Front => {
+            let p = front_selected(own, others, selection, low, high);
+            if high <= p {
+                return Stepped {
+                    number: 0,
+                    at: Position::Nothing,
+                    part,
+                };
+            }
+            Stepped {
+                number: 0,
+                at: Position::At(p),
+                part: Part { low: p + 1, high },
+            }
+        }
+        End::Back => {
+            let above = back_selected(own, others, selection, low, high);
+            if above <= low {
+                return Stepped {
+                    number: 0,
+                    at: Position::Nothing,
+                    part,
+                };
+            }
+            Stepped {
+                number: 0,
+                at: Position::At(above - 1),
+                part: Part {
+                    low,
+                    high: above - 1,
+                },
+            }
+        }
     }
 }
 
@@ -69,6 +101,7 @@ pub fn intersection_next(
     ensures { λ r. ⌜ r ≡ intersectionNextRule a (now (words .entry)) b (now (other .entry)) part ⌝ }
 {
     pair_step(
+        ask_two(a, words, b, other, part),
         a,
         words,
         b,
@@ -89,7 +122,16 @@ pub fn intersection_next_back(
 ) -> Stepped
     ensures { λ r. ⌜ r ≡ intersectionNextBackRule a (now (words .entry)) b (now (other .entry)) part ⌝ }
 {
-    pair_step(a, words, b, other, part, Selection::Intersection, End::Back)
+    pair_step(
+        ask_two(a, words, b, other, part),
+        a,
+        words,
+        b,
+        other,
+        part,
+        Selection::Intersection,
+        End::Back,
+    )
 }
 
 // The least member of the first set, and not of the second, that the record has left. Asks 1 to 3 of each set, then 8.
@@ -102,7 +144,16 @@ pub fn difference_next(
 ) -> Stepped
     ensures { λ r. ⌜ r ≡ differenceNextRule a (now (words .entry)) b (now (other .entry)) part ⌝ }
 {
-    pair_step(a, words, b, other, part, Selection::Difference, End::Front)
+    pair_step(
+        ask_two(a, words, b, other, part),
+        a,
+        words,
+        b,
+        other,
+        part,
+        Selection::Difference,
+        End::Front,
+    )
 }
 
 // The greatest of them. Asks the same.
@@ -115,5 +166,14 @@ pub fn difference_next_back(
 ) -> Stepped
     ensures { λ r. ⌜ r ≡ differenceNextBackRule a (now (words .entry)) b (now (other .entry)) part ⌝ }
 {
-    pair_step(a, words, b, other, part, Selection::Difference, End::Back)
+    pair_step(
+        ask_two(a, words, b, other, part),
+        a,
+        words,
+        b,
+        other,
+        part,
+        Selection::Difference,
+        End::Back,
+    )
 }

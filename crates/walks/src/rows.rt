@@ -2,15 +2,10 @@
 use parts::End;
 use parts::Selection;
 use parts::step_selected;
-use sets::FixedBitSet;
 use sets::Part;
 use sets::Position;
-use sets::blocks_of;
 ghost use mathlib.Core.Path.{_≡_};
-ghost use Rattle.sets.specs.Members.{wordsOf};
-ghost use Rattle.sets.specs.Rules.{slicePart, firstWords};
 ghost use Rattle.parts.specs.Steps.{step};
-ghost use Rattle.parts.specs.declared.records.Selection.the-variants.{Difference};
 ghost use Rattle.walks.specs.Rules.{rowOf, tried, rowStep};
 
 // A step of one of two parts: whether it is the second, and that part's record after it.
@@ -18,17 +13,6 @@ pub struct RowStep {
     pub second: bool,
     pub at: Position,
     pub part: Part,
-}
-
-// The words of the set, as a part of the lent slice: all of it where they are too few.
-pub fn own_words(set: FixedBitSet, words: &[u64]) -> &[u64]
-    ensures { λ r. ⌜ slicePart r ≡ firstWords (words .entry) (wordsOf (set .length)) ⌝ }
-{
-    let blocks = blocks_of(set.length);
-    if words.len() < blocks {
-        return words;
-    }
-    &words[..blocks]
 }
 
 // `second` tells whether `part`, which is tried first, is the second part.
@@ -66,37 +50,20 @@ fn try_rows(
     }
 }
 
-// A step of two parts: the first is what the selection gives, the second what the second slice has and the first has not.
+// A step of two parts: the first is what `first` selects of the first slice given the second, the second what `second` selects of the second given the first.
 pub fn step_rows(
     words: &[u64],
     other: &[u64],
     one: Part,
     two: Part,
-    selection: Selection,
+    first: Selection,
+    second: Selection,
     end: End,
 ) -> RowStep
-    ensures { λ r. ⌜ r ≡ rowStep end (rowOf selection (now (words .entry)) (now (other .entry))) (rowOf Difference (now (other .entry)) (now (words .entry))) one two ⌝ }
+    ensures { λ r. ⌜ r ≡ rowStep end (rowOf first (now (words .entry)) (now (other .entry))) (rowOf second (now (other .entry)) (now (words .entry))) one two ⌝ }
 {
     match end {
-        End::Front => try_rows(
-            words,
-            other,
-            one,
-            selection,
-            two,
-            Selection::Difference,
-            End::Front,
-            false,
-        ),
-        End::Back => try_rows(
-            other,
-            words,
-            two,
-            Selection::Difference,
-            one,
-            selection,
-            End::Back,
-            true,
-        ),
+        End::Front => try_rows(words, other, one, first, two, second, End::Front, false),
+        End::Back => try_rows(other, words, two, second, one, first, End::Back, true),
     }
 }

@@ -1,5 +1,4 @@
 use crate::answers::SteppedPair;
-use crate::rows::own_words;
 use crate::rows::step_rows;
 use parts::End;
 use parts::Selection;
@@ -7,12 +6,13 @@ use sets::FixedBitSet;
 use sets::Part;
 use sets::Position;
 use sets::ask_part;
+use sets::blocks_of;
 use sets::check_both;
 ghost use mathlib.Core.Path.{_≡_};
 ghost use Prim.Native.Nat.{ℕ};
 ghost use Rattle.sets.specs.Members.{read};
 ghost use Rattle.parts.specs.Selections.{selected};
-ghost use Rattle.walks.specs.Rules.{pairStep, steppedPair, without, unionNextRule, unionNextBackRule, symmetricDifferenceNextRule, symmetricDifferenceNextBackRule};
+ghost use Rattle.walks.specs.Rules.{pairStep, steppedPair, unionNextRule, unionNextBackRule, symmetricDifferenceNextRule, symmetricDifferenceNextBackRule};
 ghost use Rattle.sets.specs.Questions.{pairQuestions};
 
 fn ask_parts(
@@ -36,19 +36,22 @@ fn ask_parts(
     ask_part(b, two)
 }
 
+// `number` answers the questions of the step. The second part is what `second` selects of the second set, given the first.
 fn two_part_step(
+    number: u64,
     a: FixedBitSet,
     words: &[u64],
     b: FixedBitSet,
     other: &[u64],
     one: Part,
     two: Part,
-    selection: Selection,
+    first: Selection,
+    second: Selection,
     end: End,
 ) -> SteppedPair
-    ensures { λ r. ⌜ r ≡ steppedPair (pairQuestions a (now (words .entry)) b (now (other .entry)) one two) one two (pairStep end (λ (p : ℕ). selected selection (read (now (words .entry)) a .has p) (read (now (other .entry)) b .has p)) (without (read (now (other .entry)) b) (read (now (words .entry)) a)) one two) ⌝ }
+    requires { ⌜ number ≡ pairQuestions a (now words) b (now other) one two ⌝ }
+    ensures { λ r. ⌜ r ≡ steppedPair (pairQuestions a (now (words .entry)) b (now (other .entry)) one two) one two (pairStep end (λ (p : ℕ). selected first (read (now (words .entry)) a .has p) (read (now (other .entry)) b .has p)) (λ (p : ℕ). selected second (read (now (other .entry)) b .has p) (read (now (words .entry)) a .has p)) one two) ⌝ }
 {
-    let number = ask_parts(a, words, b, other, one, two);
     if number != 0 {
         return SteppedPair {
             number,
@@ -57,9 +60,9 @@ fn two_part_step(
             two,
         };
     }
-    let own = own_words(a, words);
-    let others = own_words(b, other);
-    let step = step_rows(own, others, one, two, selection, end);
+    let own = &words[..blocks_of(a.length)];
+    let others = &other[..blocks_of(b.length)];
+    let step = step_rows(own, others, one, two, first, second, end);
     let at = step.at;
     let left = step.part;
     if step.second {
@@ -90,7 +93,18 @@ pub fn union_next(
 ) -> SteppedPair
     ensures { λ r. ⌜ r ≡ unionNextRule a (now (words .entry)) b (now (other .entry)) one two ⌝ }
 {
-    two_part_step(a, words, b, other, one, two, Selection::Ones, End::Front)
+    two_part_step(
+        ask_parts(a, words, b, other, one, two),
+        a,
+        words,
+        b,
+        other,
+        one,
+        two,
+        Selection::Ones,
+        Selection::Difference,
+        End::Front,
+    )
 }
 
 // The same from the other end: the second part is tried first. Asks the same.
@@ -104,7 +118,18 @@ pub fn union_next_back(
 ) -> SteppedPair
     ensures { λ r. ⌜ r ≡ unionNextBackRule a (now (words .entry)) b (now (other .entry)) one two ⌝ }
 {
-    two_part_step(a, words, b, other, one, two, Selection::Ones, End::Back)
+    two_part_step(
+        ask_parts(a, words, b, other, one, two),
+        a,
+        words,
+        b,
+        other,
+        one,
+        two,
+        Selection::Ones,
+        Selection::Difference,
+        End::Back,
+    )
 }
 
 // The next member of the first set without the second, or, where that part is over, of the second without the first. Asks 1 to 3 of each set, then 8 of each part.
@@ -119,12 +144,14 @@ pub fn symmetric_difference_next(
     ensures { λ r. ⌜ r ≡ symmetricDifferenceNextRule a (now (words .entry)) b (now (other .entry)) one two ⌝ }
 {
     two_part_step(
+        ask_parts(a, words, b, other, one, two),
         a,
         words,
         b,
         other,
         one,
         two,
+        Selection::Difference,
         Selection::Difference,
         End::Front,
     )
@@ -142,12 +169,14 @@ pub fn symmetric_difference_next_back(
     ensures { λ r. ⌜ r ≡ symmetricDifferenceNextBackRule a (now (words .entry)) b (now (other .entry)) one two ⌝ }
 {
     two_part_step(
+        ask_parts(a, words, b, other, one, two),
         a,
         words,
         b,
         other,
         one,
         two,
+        Selection::Difference,
         Selection::Difference,
         End::Back,
     )

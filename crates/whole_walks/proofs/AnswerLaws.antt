@@ -7,9 +7,7 @@ use native.Mathlib.Numerals.{add-one}
 use native.Mathlib.Omega.{arith}
 use lib.ListN.{length, getD, take, drop, set, length-set, take-append-drop}
 use lib.Seq.{take-suc-set, drop-set-lt, drop-cons, drop-length, append-snoc}
-use denote.Ref.{RefT, now}
 use Rattle.sets.specs.Members.{wordsOf, Members, read}
-use Rattle.sets.specs.Rules.{SlicePart, firstWords}
 use Rattle.sets.specs.declared.answers.Part.{Part}
 use Rattle.sets.specs.declared.answers.Position.{Position}
 use Rattle.sets.specs.declared.fixed_bit_set.FixedBitSet.{FixedBitSet}
@@ -94,12 +92,12 @@ module _ (f g : ℕ → Bool) (steps : List ℕ) (one₀ two₀ : Part) (out₀ 
 
 -- ---- the answers of a walk, by what its steps run on
 
-module _ (a : FixedBitSet) (slice : RefT (List ℕ)) (b : FixedBitSet) (other : RefT (List ℕ)) (v : BothValid a (now slice) b (now other)) where
+module _ (a : FixedBitSet) (ws : List ℕ) (b : FixedBitSet) (vs : List ℕ) (v : BothValid a ws b vs) where
   abbrev A : Members
-  A = read (now slice) a
+  A = read ws a
 
   abbrev B : Members
-  B = read (now other) b
+  B = read vs b
 
   one-part : (f : ℕ → Bool) → bothLeft f (without B A) (firstPart a) nothingLeft ≡ bothLeft f (λ p. false) (firstPart a) (firstPart b)
   one-part f = ap (λ (xs : List ℕ). partLeft f (firstPart a) ++ xs) (nothing-left (without B A) ∙ sym (left-none (λ p. false) (firstPart b) (λ p l h. refl)))
@@ -113,13 +111,13 @@ module _ (a : FixedBitSet) (slice : RefT (List ℕ)) (b : FixedBitSet) (other : 
   at-first Walk.Union = refl
   at-first Walk.SymmetricDifference = refl
 
-  pub walk-answers : (walk : Walk) (ends : List End) {own others : SlicePart} {one two : Part} {s : Selection}
-      → own ≡ firstWords slice (wordsOf (a .length)) → others ≡ firstWords other (wordsOf (b .length))
+  pub walk-answers : (walk : Walk) (ends : List End) {m n : ℕ} {one two : Part} {s : Selection}
+      → m ≡ wordsOf (a .length) → n ≡ wordsOf (b .length)
       → one ≡ firstPart a → two ≡ secondPart walk b → s ≡ selectionOf walk
-      → answersFrom (rowOf s (own .words) (others .words)) (rowOf Difference (others .words) (own .words)) ends one two ≡ answers walk A B ends
+      → answersFrom (rowOf s (take m ws) (take n vs)) (rowOf Difference (take n vs) (take m ws)) ends one two ≡ answers walk A B ends
   unfolding read
-  walk-answers walk ends {own} {others} {one} {two} e f first second q =
-      let swapped : BothValid b (now other) a (now slice) = record { one = v .two; two = v .one } in
-      (λ i. answersFrom (rowOf (q i) (own .words) (others .words)) (rowOf Difference (others .words) (own .words)) ends (first i) (second i))
-      ∙ ap₂ (λ (g h : ℕ → Bool). answersFrom g h ends (firstPart a) (secondPart walk b)) (own-row (selectionOf walk) a slice b other v e f) (own-row Difference b other a slice swapped f e)
+  walk-answers walk ends {m} {n} {one} {two} e f first second q =
+      let swapped : BothValid b vs a ws = record { one = v .two; two = v .one } in
+      (λ i. answersFrom (rowOf (q i) (take m ws) (take n vs)) (rowOf Difference (take n vs) (take m ws)) ends (first i) (second i))
+      ∙ ap₂ (λ (g h : ℕ → Bool). answersFrom g h ends (firstPart a) (secondPart walk b)) (own-row (selectionOf walk) a ws b vs v e f) (own-row Difference b vs a ws swapped f e)
       ∙ same-answers _ _ (firstRow walk A B) (secondRow walk A B) ends (firstPart a) (secondPart walk b) (firstPart a) (firstPart b) (at-first walk)

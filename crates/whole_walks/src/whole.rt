@@ -6,10 +6,10 @@ use sets::Counted;
 use sets::FixedBitSet;
 use sets::Part;
 use sets::Position;
+use sets::blocks_of;
 use sets::check_both;
 use walks::RowStep;
 use walks::first_part;
-use walks::own_words;
 use walks::step_rows;
 ghost use mathlib.Core.Path.{_≡_};
 ghost use mathlib.Core.List.{_++_, map};
@@ -124,7 +124,15 @@ fn take_steps(
     let mut k = 0;
     while k < steps.len() {
         let end = end_of(steps[k]);
-        let step = step_rows(words, other, first, second, selection, end);
+        let step = step_rows(
+            words,
+            other,
+            first,
+            second,
+            selection,
+            Selection::Difference,
+            end,
+        );
         let at = step.at;
         let after = records_after(first, second, end, step);
         first = after.one;
@@ -156,9 +164,11 @@ pub fn walk_whole(
             count: 0,
         };
     }
+    let own = &words[..blocks_of(a.length)];
+    let others = &other[..blocks_of(b.length)];
     take_steps(
-        own_words(a, words),
-        own_words(b, other),
+        own,
+        others,
         first_part(a),
         second_part(walk, b),
         selection_of(walk),

@@ -5,10 +5,11 @@ use Prim.Native.Nat.{ℕ}
 use native.Mathlib.Omega.{arith}
 use denote.Ref.{now}
 use lib.ListN.{length, drop}
+use lib.Seq.{length-take-le}
 use Rattle.sets.specs.declared.answers.Counted.{Counted}
 use Rattle.sets.specs.declared.answers.Position.{Position}
 use Rattle.sets.proofs.OutcomeLaws.{given-no, given-yes}
-use Rattle.sets.proofs.QuestionLaws.{first-no, first-yes, both-valid}
+use Rattle.sets.proofs.QuestionLaws.{first-no, first-yes, BothValid, both-valid}
 use Rattle.whole_walks.specs.Rules.{answerWord, walkOutcome}
 use Rattle.whole_walks.proofs.AnswerLaws.{walk-answers}
 use Rattle.whole_walks.proofs.RuleLaws.{count-accepted, answers-yes, answers-no}
@@ -24,19 +25,28 @@ returns-2 c =
     given-no (λ m. record { number = m; count = 0; out = _ }) _
     (first-yes (sym (c .before .before .check-both .ensures) ∙ c .before .if1 .left) (sym (answers-no _ _ (c .if2 .taken)))) (λ z. omega arith)
 
+held : (c : tie.Else2) → let a = c .before .before .before .before .before .before .before .args in BothValid (a .a) (now (a .words)) (a .b) (now (a .other))
+held c = both-valid _ _ _ _ (sym (c .before .before .check-both .ensures) ∙ c .before .if1 .left)
+
+slice-aggregate-own : tie.Need-slice-aggregate-own
+slice-aggregate-own c = sym (length-take-le _ _ (rw (c .before .blocks-of .ensures) (held (c .before .before) .one .enough)))
+
+slice-aggregate-others : tie.Need-slice-aggregate-others
+slice-aggregate-others c = sym (length-take-le _ _ (rw (c .before .blocks-of2 .ensures) (held (c .before .before .before .before) .two .enough)))
+
 returns-3 : tie.Need-returns-3
 returns-3 c =
     let s = c .before .before .before .before .before in
-    let passed = s .before .before .before .before .before in
+    let cut = s .before .before .before in
+    let passed = cut .before .before .before .before in
     let a = passed .before .before .before .before .before .before .before .args in
     let ok = sym (passed .before .before .check-both .ensures) ∙ passed .before .if1 .left in
-    let v = both-valid (a .a) (now (a .words)) (a .b) (now (a .other)) ok in
     given-yes _ (first-yes ok (sym (answers-yes _ _ (passed .if2 .left))))
     (ap₂ (λ (r : Counted) (out : List ℕ). walkOutcome r out)
     (c .walk-count .ensures ∙ count-accepted (a .a) (now (a .words)) (a .b) (now (a .other)) ok (a .walk))
     (c .before .before .before .take-steps .ensures
     ∙ ap (λ (xs : List Position). map answerWord xs ++ drop (length (now (a .steps))) (now (a .out)))
-    (walk-answers (a .a) (a .words) (a .b) (a .other) v (a .walk) _ (s .before .before .before .before .own-words .ensures) (s .before .before .before .own-words2 .ensures)
+    (walk-answers (a .a) (now (a .words)) (a .b) (now (a .other)) (held passed) (a .walk) _ (cut .before .before .before .blocks-of .ensures) (cut .before .blocks-of2 .ensures)
     (s .before .before .first-part .ensures) (s .before .second-part .ensures) (s .selection-of .ensures))))
 
 pub walk-whole-spec : {M : Type 1} → statement M
@@ -47,7 +57,9 @@ walk-whole-spec =
     returns
     returns-2
     (λ c κs. search needs)
+    slice-aggregate-own
     (λ c κs. search needs)
+    slice-aggregate-others
     (λ c κs. search needs)
     (λ c κs. search needs)
     (λ c κs. search needs)
