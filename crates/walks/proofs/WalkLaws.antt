@@ -24,7 +24,8 @@ use Rattle.parts.specs.Steps.{step}
 use Rattle.parts.specs.declared.records.End.{End}
 use Rattle.parts.specs.declared.records.Selection.{Selection}
 use Rattle.parts.specs.declared.records.Step.{Step}
-use Rattle.walks.specs.Rules.{taken, stepped, rowOf, rowStep, PairStep, placed, pairStep, takenPair, steppedPair}
+use Rattle.walks.specs.Helpers.{rowOf}
+use Rattle.walks.specs.Rules.{taken, stepped, rowStep, PairStep, placed, pairStep, takenPair, steppedPair}
 use Rattle.walks.specs.declared.rows.RowStep.{RowStep}
 
 -- the second set's own words: a bit past them is no

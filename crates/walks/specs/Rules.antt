@@ -2,16 +2,14 @@
 use mathlib.Core.Bool.{Bool, true, false, cond, not, _&&_}
 use mathlib.Core.List.{List}
 use Prim.Native.Nat.{ℕ}
-use Rattle.sets.specs.Members.{bitOf, read, Members}
+use Rattle.sets.specs.Members.{read, Members}
 use Rattle.sets.specs.Outcomes.{given}
 use Rattle.sets.specs.Questions.{partQuestions, twoQuestions, pairQuestions}
 use Rattle.sets.specs.declared.fixed_bit_set.FixedBitSet.{FixedBitSet}
 use Rattle.sets.specs.declared.answers.Position.the-variants.{Nothing, At}
-use Rattle.parts.specs.Selections.{selected}
 use Rattle.parts.specs.Steps.{front, back}
 use Rattle.parts.specs.declared.records.End.{End}
 use Rattle.parts.specs.declared.records.End.the-variants.{Front, Back}
-use Rattle.parts.specs.declared.records.Selection.{Selection}
 use Rattle.sets.specs.declared.answers.Part.{Part}
 use Rattle.parts.specs.declared.records.Step.{Step}
 use Rattle.walks.specs.declared.answers.Stepped.{Stepped}
@@ -54,15 +52,12 @@ differenceNextRule a ws b vs part = stepped (twoQuestions a ws b vs part) part (
 abbrev pub differenceNextBackRule : FixedBitSet → List ℕ → FixedBitSet → List ℕ → Part → Stepped
 differenceNextBackRule a ws b vs part = stepped (twoQuestions a ws b vs part) part (back (λ p. read ws a .has p && not (read vs b .has p)) part)
 
--- which positions of lent words a part is, given the words of another set
-abbrev pub rowOf : Selection → List ℕ → List ℕ → ℕ → Bool
-rowOf selection ws vs p = selected selection (bitOf ws p) (bitOf vs p)
-
+-- the part that is tried first decides where it gives a position, else the other
 abbrev pub orElse : Position → RowStep → RowStep → RowStep
 orElse (At p) x y = x
 orElse Nothing x y = y
 
--- the part that is tried first decides where it gives a position, else the other; `second` tells whether the second is tried first
+-- the steps of both, the one tried first in front; `second` tells whether that is the second part's
 abbrev pub tried : Bool → Step → Step → RowStep
 tried second s t = orElse (s .at) (record { second = second; at = s .at; part = s .part }) (record { second = not second; at = t .at; part = t .part })
 

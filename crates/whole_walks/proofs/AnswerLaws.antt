@@ -16,11 +16,13 @@ use Rattle.parts.specs.Selections.{selected}
 use Rattle.parts.specs.declared.records.End.{End}
 use Rattle.parts.specs.declared.records.Selection.{Selection}
 use Rattle.parts.specs.declared.records.Selection.the-variants.{Difference}
-use Rattle.walks.specs.Rules.{firstPart, rowOf, rowStep, PairStep, pairStep, without}
+use Rattle.walks.specs.Helpers.{rowOf}
+use Rattle.walks.specs.Rules.{firstPart, rowStep, PairStep, pairStep, without}
 use Rattle.walks.proofs.WalkLaws.{own-row}
 use Rattle.walks.specs.declared.rows.RowStep.{RowStep}
 use Rattle.whole_walks.specs.Walks.{firstRow, secondRow, answersFrom, answers}
-use Rattle.whole_walks.specs.Rules.{selectionOf, nothingLeft, secondPart, recordsAfter, endOf, answerWord}
+use Rattle.whole_walks.specs.Helpers.{selectionOf, nothingLeft, secondPart, recordsAfter}
+use Rattle.whole_walks.specs.Rules.{endOf, answerWord}
 use Rattle.whole_walks.specs.declared.whole.Records.{Records}
 use Rattle.whole_walks.specs.declared.walk.Walk.{Walk}
 use Rattle.whole_walks.specs.declared.walk.Walk.the-variants as Walk

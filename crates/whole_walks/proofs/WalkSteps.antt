@@ -14,7 +14,7 @@ use Rattle.parts.specs.declared.records.End.{End}
 use Rattle.parts.specs.declared.records.End.the-variants.{Front, Back}
 use Rattle.walks.specs.Rules.{tried, rowStep, placed, pairStep}
 use Rattle.walks.specs.declared.rows.RowStep.{RowStep}
-use Rattle.whole_walks.specs.Rules.{nothingLeft, recordsAfter}
+use Rattle.whole_walks.specs.Helpers.{nothingLeft, recordsAfter}
 use Rattle.whole_walks.specs.Walks.{answersFrom}
 use Rattle.whole_walks.proofs.PartLists.{between, partLeft}
 use Rattle.whole_walks.proofs.PartSteps.{Taken, step-taken}

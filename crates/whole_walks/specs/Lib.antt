@@ -1,3 +1,4 @@
 pub mod Walks
 pub mod Walked
 pub mod Rules
+pub mod Helpers

@@ -16,9 +16,10 @@ ghost use mathlib.Core.List.{_++_, map};
 ghost use Prim.Native.Nat.{_≤_};
 ghost use lib.ListN.{length, drop};
 ghost use Rattle.parts.specs.declared.records.Selection.the-variants.{Difference};
-ghost use Rattle.walks.specs.Rules.{rowOf};
+ghost use Rattle.walks.specs.Helpers.{rowOf};
 ghost use Rattle.whole_walks.specs.Walks.{answersFrom};
-ghost use Rattle.whole_walks.specs.Rules.{selectionOf, secondPart, leftOf, recordsAfter, endOf, answerWord, walkOutcome, walkRule};
+ghost use Rattle.whole_walks.specs.Helpers.{selectionOf, secondPart, leftOf, recordsAfter};
+ghost use Rattle.whole_walks.specs.Rules.{endOf, answerWord, walkOutcome, walkRule};
 
 fn end_of(number: u64) -> End
     ensures { λ r. ⌜ r ≡ endOf number ⌝ }

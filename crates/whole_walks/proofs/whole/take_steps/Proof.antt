@@ -4,7 +4,7 @@ use native.Mathlib.Omega.{arith}
 use borrow.Author.Needs.{needs}
 use lib.ListN.{length}
 use Rattle.parts.specs.declared.records.Selection.the-variants.{Difference}
-use Rattle.walks.specs.Rules.{rowOf}
+use Rattle.walks.specs.Helpers.{rowOf}
 use Rattle.whole_walks.proofs.AnswerLaws.{Answered, answered-none, answered-all, answered-more}
 use Rattle.whole_walks.proofs.whole.take_steps.Statement.{statement}
 use Rattle.whole_walks.proofs.whole.take_steps.Tie as tie
