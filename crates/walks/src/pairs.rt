@@ -100,16 +100,9 @@ pub fn intersection_next(
 ) -> Stepped
     ensures { λ r. ⌜ r ≡ intersectionNextRule a (now (words .entry)) b (now (other .entry)) part ⌝ }
 {
-    pair_step(
-        ask_two(a, words, b, other, part),
-        a,
-        words,
-        b,
-        other,
-        part,
-        Selection::Intersection,
-        End::Front,
-    )
+    let number = ask_two(a, words, b, other, part);
+    let kind = Selection::Intersection;
+    pair_step(number, a, words, b, other, part, kind, End::Front)
 }
 
 // The greatest of them. Asks the same.
@@ -122,16 +115,9 @@ pub fn intersection_next_back(
 ) -> Stepped
     ensures { λ r. ⌜ r ≡ intersectionNextBackRule a (now (words .entry)) b (now (other .entry)) part ⌝ }
 {
-    pair_step(
-        ask_two(a, words, b, other, part),
-        a,
-        words,
-        b,
-        other,
-        part,
-        Selection::Intersection,
-        End::Back,
-    )
+    let number = ask_two(a, words, b, other, part);
+    let kind = Selection::Intersection;
+    pair_step(number, a, words, b, other, part, kind, End::Back)
 }
 
 // The least member of the first set, and not of the second, that the record has left. Asks 1 to 3 of each set, then 8.
@@ -144,16 +130,9 @@ pub fn difference_next(
 ) -> Stepped
     ensures { λ r. ⌜ r ≡ differenceNextRule a (now (words .entry)) b (now (other .entry)) part ⌝ }
 {
-    pair_step(
-        ask_two(a, words, b, other, part),
-        a,
-        words,
-        b,
-        other,
-        part,
-        Selection::Difference,
-        End::Front,
-    )
+    let number = ask_two(a, words, b, other, part);
+    let kind = Selection::Difference;
+    pair_step(number, a, words, b, other, part, kind, End::Front)
 }
 
 // The greatest of them. Asks the same.
@@ -166,14 +145,7 @@ pub fn difference_next_back(
 ) -> Stepped
     ensures { λ r. ⌜ r ≡ differenceNextBackRule a (now (words .entry)) b (now (other .entry)) part ⌝ }
 {
-    pair_step(
-        ask_two(a, words, b, other, part),
-        a,
-        words,
-        b,
-        other,
-        part,
-        Selection::Difference,
-        End::Back,
-    )
+    let number = ask_two(a, words, b, other, part);
+    let kind = Selection::Difference;
+    pair_step(number, a, words, b, other, part, kind, End::Back)
 }

@@ -93,18 +93,10 @@ pub fn union_next(
 ) -> SteppedPair
     ensures { λ r. ⌜ r ≡ unionNextRule a (now (words .entry)) b (now (other .entry)) one two ⌝ }
 {
-    two_part_step(
-        ask_parts(a, words, b, other, one, two),
-        a,
-        words,
-        b,
-        other,
-        one,
-        two,
-        Selection::Ones,
-        Selection::Difference,
-        End::Front,
-    )
+    let number = ask_parts(a, words, b, other, one, two);
+    let kind = Selection::Ones;
+    let rest = Selection::Difference;
+    two_part_step(number, a, words, b, other, one, two, kind, rest, End::Front)
 }
 
 // The same from the other end: the second part is tried first. Asks the same.
@@ -118,18 +110,10 @@ pub fn union_next_back(
 ) -> SteppedPair
     ensures { λ r. ⌜ r ≡ unionNextBackRule a (now (words .entry)) b (now (other .entry)) one two ⌝ }
 {
-    two_part_step(
-        ask_parts(a, words, b, other, one, two),
-        a,
-        words,
-        b,
-        other,
-        one,
-        two,
-        Selection::Ones,
-        Selection::Difference,
-        End::Back,
-    )
+    let number = ask_parts(a, words, b, other, one, two);
+    let kind = Selection::Ones;
+    let rest = Selection::Difference;
+    two_part_step(number, a, words, b, other, one, two, kind, rest, End::Back)
 }
 
 // The next member of the first set without the second, or, where that part is over, of the second without the first. Asks 1 to 3 of each set, then 8 of each part.
@@ -143,18 +127,10 @@ pub fn symmetric_difference_next(
 ) -> SteppedPair
     ensures { λ r. ⌜ r ≡ symmetricDifferenceNextRule a (now (words .entry)) b (now (other .entry)) one two ⌝ }
 {
-    two_part_step(
-        ask_parts(a, words, b, other, one, two),
-        a,
-        words,
-        b,
-        other,
-        one,
-        two,
-        Selection::Difference,
-        Selection::Difference,
-        End::Front,
-    )
+    let number = ask_parts(a, words, b, other, one, two);
+    let kind = Selection::Difference;
+    let rest = Selection::Difference;
+    two_part_step(number, a, words, b, other, one, two, kind, rest, End::Front)
 }
 
 // The same from the other end: the second part is tried first. Asks the same.
@@ -168,16 +144,8 @@ pub fn symmetric_difference_next_back(
 ) -> SteppedPair
     ensures { λ r. ⌜ r ≡ symmetricDifferenceNextBackRule a (now (words .entry)) b (now (other .entry)) one two ⌝ }
 {
-    two_part_step(
-        ask_parts(a, words, b, other, one, two),
-        a,
-        words,
-        b,
-        other,
-        one,
-        two,
-        Selection::Difference,
-        Selection::Difference,
-        End::Back,
-    )
+    let number = ask_parts(a, words, b, other, one, two);
+    let kind = Selection::Difference;
+    let rest = Selection::Difference;
+    two_part_step(number, a, words, b, other, one, two, kind, rest, End::Back)
 }
