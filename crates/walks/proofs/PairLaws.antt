@@ -5,7 +5,7 @@ use Prim.Native.Nat.{ℕ}
 use Rattle.sets.specs.declared.answers.Part.{Part}
 use Rattle.sets.specs.declared.answers.Position.{Position}
 use Rattle.sets.specs.declared.answers.Position.the-variants.{At, Nothing}
-use Rattle.walks.specs.Rules.{orElse, PairStep, placed}
+use Rattle.walks.specs.Rules.{orElse, placed}
 use Rattle.walks.specs.declared.rows.RowStep.{RowStep}
 
 pub or-first : {q : Position} (p : ℕ) (x y : RowStep) → q ≡ At p → orElse q x y ≡ x

@@ -1,6 +1,5 @@
 -- `layout_tool::list_answers` is safe and ends: its measure is what is left of the answers. Assumes nothing.
 use Prim.Native.Nat.{_-_}
-use native.Mathlib.Omega.{arith}
 use borrow.Author.Needs.{needs}
 use lib.ListN.{length}
 use Rattle.layout_tool.proofs.listing.list_answers.Statement.{statement}

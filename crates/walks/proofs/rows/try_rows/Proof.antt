@@ -1,6 +1,5 @@
 -- `walks::try_rows` meets its contract. Assumes nothing.
 use mathlib.Core.Path.{sym, ap, _∙_}
-use mathlib.Core.Bool.{not}
 use borrow.Author.Needs.{needs}
 use Rattle.sets.specs.declared.answers.Position.{Position}
 use Rattle.walks.proofs.PairLaws.{or-first, or-second}
