@@ -5,7 +5,8 @@ use Prim.Native.Nat.{ℕ, zero, suc}
 use Rattle.sets.specs.Outcomes.{positionOf}
 use Rattle.sets.specs.declared.answers.Part.{Part}
 use Rattle.parts.specs.Steps.{front}
-use Rattle.walks.specs.Rules.{frontPair}
+use Rattle.parts.specs.declared.records.End.the-variants.{Front}
+use Rattle.walks.specs.Rules.{pairStep}
 
 -- the positions that the steps give, in order, and the record after them
 pub record Many : Type 0 where
@@ -29,7 +30,7 @@ pub record ManyPair : Type 0 where
 unfoldable pub frontPairs : ℕ → (ℕ → Bool) → (ℕ → Bool) → Part → Part → ManyPair
 frontPairs zero f g one two = record { positions = []; one = one; two = two }
 frontPairs (suc n) f g one two = record {
-  positions = positionOf (frontPair f g one two .at) ++ frontPairs n f g (frontPair f g one two .one) (frontPair f g one two .two) .positions;
-  one = frontPairs n f g (frontPair f g one two .one) (frontPair f g one two .two) .one;
-  two = frontPairs n f g (frontPair f g one two .one) (frontPair f g one two .two) .two;
+  positions = positionOf (pairStep Front f g one two .at) ++ frontPairs n f g (pairStep Front f g one two .one) (pairStep Front f g one two .two) .positions;
+  one = frontPairs n f g (pairStep Front f g one two .one) (pairStep Front f g one two .two) .one;
+  two = frontPairs n f g (pairStep Front f g one two .one) (pairStep Front f g one two .two) .two;
 }

@@ -24,9 +24,10 @@ use Rattle.parts.specs.Steps.{step}
 use Rattle.parts.specs.declared.records.End.{End}
 use Rattle.parts.specs.declared.records.Selection.{Selection}
 use Rattle.parts.specs.declared.records.Step.{Step}
-use Rattle.walks.specs.Helpers.{rowOf}
-use Rattle.walks.specs.Rules.{taken, stepped, rowStep, PairStep, placed, pairStep, takenPair, steppedPair}
+use Rattle.walks.specs.Helpers.{rowOf, rowStep, placed}
+use Rattle.walks.specs.Rules.{taken, stepped, PairStep, pairStep, takenPair, steppedPair}
 use Rattle.walks.specs.declared.rows.RowStep.{RowStep}
+use Rattle.walks.proofs.PairLaws.{placed-is}
 
 -- the second set's own words: a bit past them is no
 pub slice-bits : (b : FixedBitSet) (vs : List ℕ) → Valid b vs → (p : ℕ) → bitOf (take (wordsOf (b .length)) vs) p ≡ read vs b .has p
@@ -66,7 +67,8 @@ module _ (a : FixedBitSet) (ws : List ℕ) (b : FixedBitSet) (vs : List ℕ) whe
         given-yes _ asked
         (ap takenPair
         (pl ∙ ap (placed one two) (st ∙ ap₂ (λ (g h : ℕ → Bool). rowStep end g h one two) (own-row s a ws b vs v e f)
-        (own-row t b vs a ws (record { one = v .two; two = v .one }) f e))))
+        (own-row t b vs a ws (record { one = v .two; two = v .one }) f e))
+        ∙ placed-is _ _ one two end))
 
 -- a set beside itself is asked as it is alone
 pub asked-alone : (set : FixedBitSet) (ws : List ℕ) (part : Part) → partQuestions set ws part ≡ twoQuestions set ws set ws part

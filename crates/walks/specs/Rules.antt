@@ -1,5 +1,5 @@
 -- The rule of each step of a walk: a over ws, b over vs.
-use mathlib.Core.Bool.{Bool, true, false, cond, not, _&&_}
+use mathlib.Core.Bool.{Bool, not, _&&_}
 use mathlib.Core.List.{List}
 use Prim.Native.Nat.{ℕ}
 use Rattle.sets.specs.Members.{read, Members}
@@ -15,7 +15,6 @@ use Rattle.parts.specs.declared.records.Step.{Step}
 use Rattle.walks.specs.declared.answers.Stepped.{Stepped}
 use Rattle.sets.specs.declared.answers.Position.{Position}
 use Rattle.walks.specs.declared.answers.SteppedPair.{SteppedPair}
-use Rattle.walks.specs.declared.rows.RowStep.{RowStep}
 
 -- at first 0 and L
 abbrev pub firstPart : FixedBitSet → Part
@@ -52,32 +51,25 @@ differenceNextRule a ws b vs part = stepped (twoQuestions a ws b vs part) part (
 abbrev pub differenceNextBackRule : FixedBitSet → List ℕ → FixedBitSet → List ℕ → Part → Stepped
 differenceNextBackRule a ws b vs part = stepped (twoQuestions a ws b vs part) part (back (λ p. read ws a .has p && not (read vs b .has p)) part)
 
--- the part that is tried first decides where it gives a position, else the other
-abbrev pub orElse : Position → RowStep → RowStep → RowStep
-orElse (At p) x y = x
-orElse Nothing x y = y
-
--- the steps of both, the one tried first in front; `second` tells whether that is the second part's
-abbrev pub tried : Bool → Step → Step → RowStep
-tried second s t = orElse (s .at) (record { second = second; at = s .at; part = s .part }) (record { second = not second; at = t .at; part = t .part })
-
--- a front step tries the first part, then the second; a back step the second, then the first
-abbrev pub rowStep : End → (ℕ → Bool) → (ℕ → Bool) → Part → Part → RowStep
-rowStep Front f g one two = tried false (front f one) (front g two)
-rowStep Back f g one two = tried true (back g two) (back f one)
-
 -- a position or none, and both records
 pub record PairStep : Type 0 where
   pub at : Position
   pub one : Part
   pub two : Part
 
--- the part that was stepped has the record after the step, the other its own
-abbrev pub placed : Part → Part → RowStep → PairStep
-placed one two r = record { at = r .at; one = cond (r .second) one (r .part); two = cond (r .second) (r .part) two }
+-- the part that is tried first decides where it gives a position, else the other
+abbrev pub orElse : {A : Type 0} → Position → A → A → A
+orElse (At p) x y = x
+orElse Nothing x y = y
 
+-- a front step tries the first part, then the second; a back step the second, then the first
 abbrev pub pairStep : End → (ℕ → Bool) → (ℕ → Bool) → Part → Part → PairStep
-pairStep end f g one two = placed one two (rowStep end f g one two)
+pairStep Front f g one two = orElse (front f one .at)
+    (record { at = front f one .at; one = front f one .part; two = two })
+    (record { at = front g two .at; one = one; two = front g two .part })
+pairStep Back f g one two = orElse (back g two .at)
+    (record { at = back g two .at; one = one; two = back g two .part })
+    (record { at = back f one .at; one = back f one .part; two = two })
 
 -- refused, none and both records as handed in; else what the step gives
 abbrev pub takenPair : PairStep → SteppedPair

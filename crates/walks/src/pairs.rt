@@ -6,9 +6,8 @@ use parts::front_selected;
 use sets::FixedBitSet;
 use sets::Part;
 use sets::Position;
-use sets::ask_part;
 use sets::blocks_of;
-use sets::check_both;
+use sets::check_two;
 ghost use mathlib.Core.Path.{_≡_};
 ghost use Prim.Native.Nat.{ℕ};
 ghost use Rattle.sets.specs.Members.{read};
@@ -17,16 +16,6 @@ ghost use Rattle.parts.specs.Steps.{step};
 ghost use Rattle.walks.specs.Rules.{stepped};
 ghost use Rattle.walks.specs.Rules.{intersectionNextRule, intersectionNextBackRule, differenceNextRule, differenceNextBackRule};
 ghost use Rattle.sets.specs.Questions.{twoQuestions};
-
-fn ask_two(a: FixedBitSet, words: &[u64], b: FixedBitSet, other: &[u64], part: Part) -> u64
-    ensures { λ r. ⌜ r ≡ twoQuestions a (now (words .entry)) b (now (other .entry)) part ⌝ }
-{
-    let number = check_both(a, words, b, other);
-    if number != 0 {
-        return number;
-    }
-    ask_part(a, part)
-}
 
 // `number` answers the questions of the step.
 pub(crate) fn pair_step(
@@ -100,7 +89,7 @@ pub fn intersection_next(
 ) -> Stepped
     ensures { λ r. ⌜ r ≡ intersectionNextRule a (now (words .entry)) b (now (other .entry)) part ⌝ }
 {
-    let number = ask_two(a, words, b, other, part);
+    let number = check_two(a, words, b, other, part);
     let kind = Selection::Intersection;
     pair_step(number, a, words, b, other, part, kind, End::Front)
 }
@@ -115,7 +104,7 @@ pub fn intersection_next_back(
 ) -> Stepped
     ensures { λ r. ⌜ r ≡ intersectionNextBackRule a (now (words .entry)) b (now (other .entry)) part ⌝ }
 {
-    let number = ask_two(a, words, b, other, part);
+    let number = check_two(a, words, b, other, part);
     let kind = Selection::Intersection;
     pair_step(number, a, words, b, other, part, kind, End::Back)
 }
@@ -130,7 +119,7 @@ pub fn difference_next(
 ) -> Stepped
     ensures { λ r. ⌜ r ≡ differenceNextRule a (now (words .entry)) b (now (other .entry)) part ⌝ }
 {
-    let number = ask_two(a, words, b, other, part);
+    let number = check_two(a, words, b, other, part);
     let kind = Selection::Difference;
     pair_step(number, a, words, b, other, part, kind, End::Front)
 }
@@ -145,7 +134,7 @@ pub fn difference_next_back(
 ) -> Stepped
     ensures { λ r. ⌜ r ≡ differenceNextBackRule a (now (words .entry)) b (now (other .entry)) part ⌝ }
 {
-    let number = ask_two(a, words, b, other, part);
+    let number = check_two(a, words, b, other, part);
     let kind = Selection::Difference;
     pair_step(number, a, words, b, other, part, kind, End::Back)
 }

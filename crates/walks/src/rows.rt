@@ -6,8 +6,7 @@ use sets::Part;
 use sets::Position;
 ghost use mathlib.Core.Path.{_≡_};
 ghost use Rattle.parts.specs.Steps.{step};
-ghost use Rattle.walks.specs.Helpers.{rowOf};
-ghost use Rattle.walks.specs.Rules.{tried, rowStep};
+ghost use Rattle.walks.specs.Helpers.{rowOf, tried, rowStep};
 
 // A step of one of two parts: whether it is the second, and that part's record after it.
 pub struct RowStep {

@@ -5,36 +5,14 @@ use parts::Selection;
 use sets::FixedBitSet;
 use sets::Part;
 use sets::Position;
-use sets::ask_part;
 use sets::blocks_of;
-use sets::check_both;
+use sets::check_pair;
 ghost use mathlib.Core.Path.{_≡_};
 ghost use Prim.Native.Nat.{ℕ};
 ghost use Rattle.sets.specs.Members.{read};
 ghost use Rattle.parts.specs.Selections.{selected};
 ghost use Rattle.walks.specs.Rules.{pairStep, steppedPair, unionNextRule, unionNextBackRule, symmetricDifferenceNextRule, symmetricDifferenceNextBackRule};
 ghost use Rattle.sets.specs.Questions.{pairQuestions};
-
-fn ask_parts(
-    a: FixedBitSet,
-    words: &[u64],
-    b: FixedBitSet,
-    other: &[u64],
-    one: Part,
-    two: Part,
-) -> u64
-    ensures { λ r. ⌜ r ≡ pairQuestions a (now (words .entry)) b (now (other .entry)) one two ⌝ }
-{
-    let number = check_both(a, words, b, other);
-    if number != 0 {
-        return number;
-    }
-    let number = ask_part(a, one);
-    if number != 0 {
-        return number;
-    }
-    ask_part(b, two)
-}
 
 // `number` answers the questions of the step. The second part is what `second` selects of the second set, given the first.
 fn two_part_step(
@@ -93,7 +71,7 @@ pub fn union_next(
 ) -> SteppedPair
     ensures { λ r. ⌜ r ≡ unionNextRule a (now (words .entry)) b (now (other .entry)) one two ⌝ }
 {
-    let number = ask_parts(a, words, b, other, one, two);
+    let number = check_pair(a, words, b, other, one, two);
     let kind = Selection::Ones;
     let rest = Selection::Difference;
     two_part_step(number, a, words, b, other, one, two, kind, rest, End::Front)
@@ -110,7 +88,7 @@ pub fn union_next_back(
 ) -> SteppedPair
     ensures { λ r. ⌜ r ≡ unionNextBackRule a (now (words .entry)) b (now (other .entry)) one two ⌝ }
 {
-    let number = ask_parts(a, words, b, other, one, two);
+    let number = check_pair(a, words, b, other, one, two);
     let kind = Selection::Ones;
     let rest = Selection::Difference;
     two_part_step(number, a, words, b, other, one, two, kind, rest, End::Back)
@@ -127,7 +105,7 @@ pub fn symmetric_difference_next(
 ) -> SteppedPair
     ensures { λ r. ⌜ r ≡ symmetricDifferenceNextRule a (now (words .entry)) b (now (other .entry)) one two ⌝ }
 {
-    let number = ask_parts(a, words, b, other, one, two);
+    let number = check_pair(a, words, b, other, one, two);
     let kind = Selection::Difference;
     let rest = Selection::Difference;
     two_part_step(number, a, words, b, other, one, two, kind, rest, End::Front)
@@ -144,7 +122,7 @@ pub fn symmetric_difference_next_back(
 ) -> SteppedPair
     ensures { λ r. ⌜ r ≡ symmetricDifferenceNextBackRule a (now (words .entry)) b (now (other .entry)) one two ⌝ }
 {
-    let number = ask_parts(a, words, b, other, one, two);
+    let number = check_pair(a, words, b, other, one, two);
     let kind = Selection::Difference;
     let rest = Selection::Difference;
     two_part_step(number, a, words, b, other, one, two, kind, rest, End::Back)

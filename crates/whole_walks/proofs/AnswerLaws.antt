@@ -16,8 +16,9 @@ use Rattle.parts.specs.Selections.{selected}
 use Rattle.parts.specs.declared.records.End.{End}
 use Rattle.parts.specs.declared.records.Selection.{Selection}
 use Rattle.parts.specs.declared.records.Selection.the-variants.{Difference}
-use Rattle.walks.specs.Helpers.{rowOf}
-use Rattle.walks.specs.Rules.{firstPart, rowStep, PairStep, pairStep, without}
+use Rattle.walks.specs.Helpers.{rowOf, rowStep}
+use Rattle.walks.proofs.PairLaws.{placed-is}
+use Rattle.walks.specs.Rules.{firstPart, PairStep, pairStep, without}
 use Rattle.walks.proofs.WalkLaws.{own-row}
 use Rattle.walks.specs.declared.rows.RowStep.{RowStep}
 use Rattle.whole_walks.specs.Walks.{firstRow, secondRow, answersFrom, answers}
@@ -77,7 +78,8 @@ module _ (f g : ℕ → Bool) (steps : List ℕ) (one₀ two₀ : Part) (out₀ 
       let n = length steps in
       let t = endOf (getD steps k 0) in
       let s = stepAt k one two in
-      let x = answerWord (s .at) in
+      let x = answerWord (rowStep t f g one two .at) in
+      let same : x ≡ answerWord (s .at) = ap (λ (q : PairStep). answerWord (q .at)) (placed-is f g one two t) in
       let left = recordsAfter one two t (rowStep t f g one two) in
       let rest = wordsFrom (suc k) (left .one) (left .two) in
       let ends = map endOf (drop (suc k) steps) in
@@ -89,7 +91,7 @@ module _ (f g : ℕ → Bool) (steps : List ℕ) (one₀ two₀ : Part) (out₀ 
         stored =
             ap₂ (λ (xs ys : List ℕ). xs ++ rest ++ ys) (take-suc-set out k x (omega arith)) (drop-set-lt n out k x l)
             ∙ ap (λ (xs : List ℕ). xs ++ drop n out) (append-snoc (take k out) x rest)
-            ∙ ap (λ (xs : List ℕ). take k out ++ xs ++ drop n out) (ap (λ (xs : List ℕ). x ∷ xs) later ∙ sym (next-word k one two l)) ∙ h .stored;
+            ∙ ap (λ (xs : List ℕ). take k out ++ xs ++ drop n out) (ap₂ (λ (y : ℕ) (xs : List ℕ). y ∷ xs) same later ∙ sym (next-word k one two l)) ∙ h .stored;
       }
 
 -- ---- the answers of a walk, by what its steps run on

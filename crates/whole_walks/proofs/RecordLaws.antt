@@ -1,6 +1,6 @@
 -- The answers of a walk stay below the length of its sets. Assumes nothing.
 use mathlib.Core.Path.{_≡_}
-use mathlib.Core.Bool.{Bool, true, false}
+use mathlib.Core.Bool.{Bool}
 use mathlib.Core.List.{List, [], _∷_}
 use Prim.Native.Nat.{ℕ, zero, suc, _≤_, _<_}
 use native.Mathlib.Nat.{le-refl, le-trans}
@@ -13,16 +13,15 @@ use Rattle.parts.specs.Steps.{front, back, step}
 use Rattle.parts.specs.declared.records.End.{End}
 use Rattle.parts.specs.declared.records.End.the-variants.{Front, Back}
 use Rattle.parts.specs.declared.records.Step.{Step}
-use Rattle.walks.specs.Rules.{orElse, rowStep, placed, pairStep}
-use Rattle.walks.specs.declared.rows.RowStep.{RowStep}
+use Rattle.walks.specs.Rules.{orElse, PairStep, pairStep}
 use Rattle.whole_walks.specs.Walks.{answersFrom}
 use Rattle.whole_walks.proofs.PartSteps.{Outcome, gives, lacks, step-outcome}
 
 -- the records that a step leaves end at n at most, and the position that it gives is below n
-record Below (n : ℕ) (one two : Part) (r : RowStep) : Type 0 where
-  first : placed one two r .one .high ≤ n
-  second : placed one two r .two .high ≤ n
-  given : (p : ℕ) → r .at ≡ At p → p < n
+record Below (n : ℕ) (s : PairStep) : Type 0 where
+  first : s .one .high ≤ n
+  second : s .two .high ≤ n
+  given : (p : ℕ) → s .at ≡ At p → p < n
 
 module _ (f : ℕ → Bool) (part : Part) where
   step-high : (end : End) → step end f part .part .high ≤ part .high
@@ -41,20 +40,20 @@ module _ (f : ℕ → Bool) (part : Part) where
       go (lacks zs) e = absurd (let z : _≡_ {A = ℕ} 0 1 = cc in omega arith)
 
 module _ (n : ℕ) (f g : ℕ → Bool) where
-  row-below : (end : End) (one two : Part) → one .high ≤ n → two .high ≤ n → Below n one two (rowStep end f g one two)
-  row-below end one two h k = go end
+  step-in : (end : End) (one two : Part) → one .high ≤ n → two .high ≤ n → Below n (pairStep end f g one two)
+  step-in end one two h k = go end
     where
-      in-first : (e : End) → Below n one two (record { second = false; at = step e f one .at; part = step e f one .part })
+      in-first : (e : End) → Below n (record { at = step e f one .at; one = step e f one .part; two = two })
       in-first e = record { first = le-trans (step-high f one e) h; second = k; given = λ p is. le-trans (step-below f one e p is) h }
 
-      in-second : (e : End) → Below n one two (record { second = true; at = step e g two .at; part = step e g two .part })
+      in-second : (e : End) → Below n (record { at = step e g two .at; one = one; two = step e g two .part })
       in-second e = record { first = h; second = le-trans (step-high g two e) k; given = λ p is. le-trans (step-below g two e p is) k }
 
-      either : (q : Position) {x y : RowStep} → Below n one two x → Below n one two y → Below n one two (orElse q x y)
+      either : (q : Position) {x y : PairStep} → Below n x → Below n y → Below n (orElse q x y)
       either (At p) u v = u
       either Nothing u v = v
 
-      go : (e : End) → Below n one two (rowStep e f g one two)
+      go : (e : End) → Below n (pairStep e f g one two)
       go Front = either (front f one .at) (in-first Front) (in-second Front)
       go Back = either (back g two .at) (in-second Back) (in-first Back)
 
@@ -62,7 +61,7 @@ module _ (n : ℕ) (f g : ℕ → Bool) where
       → (k p : ℕ) → getD (answersFrom f g ends one two) k Nothing ≡ At p → p < n
   unfolding answersFrom
   answers-below [] one two h k i p e = absurd (let z : _≡_ {A = ℕ} 0 1 = cc in omega arith)
-  answers-below (end ∷ ends) one two h k zero p e = row-below end one two h k .given p e
+  answers-below (end ∷ ends) one two h k zero p e = step-in end one two h k .given p e
   answers-below (end ∷ ends) one two h k (suc i) p e =
-      let b = row-below end one two h k in
+      let b = step-in end one two h k in
       answers-below ends (pairStep end f g one two .one) (pairStep end f g one two .two) (b .first) (b .second) i p e

@@ -1,5 +1,5 @@
 -- What a step takes from what is left of a walk, and that what is left decides every answer. Assumes nothing.
-use mathlib.Core.Path.{_≡_, refl, sym, ap, ap₂, _∙_}
+use mathlib.Core.Path.{_≡_, refl, sym, ap, ap₂, subst, _∙_}
 use mathlib.Core.Bool.{Bool, true, false}
 use mathlib.Core.List.{List, [], _∷_, _++_, append-assoc, append-nil}
 use Prim.Native.Nat.{ℕ}
@@ -12,7 +12,9 @@ use Rattle.sets.specs.declared.answers.Position.the-variants.{At, Nothing}
 use Rattle.parts.specs.Steps.{front, back}
 use Rattle.parts.specs.declared.records.End.{End}
 use Rattle.parts.specs.declared.records.End.the-variants.{Front, Back}
-use Rattle.walks.specs.Rules.{tried, rowStep, placed, pairStep}
+use Rattle.walks.specs.Helpers.{tried, rowStep, placed}
+use Rattle.walks.specs.Rules.{PairStep, pairStep}
+use Rattle.walks.proofs.PairLaws.{placed-is}
 use Rattle.walks.specs.declared.rows.RowStep.{RowStep}
 use Rattle.whole_walks.specs.Helpers.{nothingLeft, recordsAfter}
 use Rattle.whole_walks.specs.Walks.{answersFrom}
@@ -31,13 +33,16 @@ nothing-left f = refl
 
 module _ (f g : ℕ → Bool) (one two : Part) where
   -- it takes a position from what is left, and the records of a whole walk leave as much
-  abbrev Good : End → RowStep → Type 0
-  Good end r =
-      Taken (r .at) end (bothLeft f g one two) (bothLeft f g (placed one two r .one) (placed one two r .two))
-      × (bothLeft f g (recordsAfter one two end r .one) (recordsAfter one two end r .two) ≡ bothLeft f g (placed one two r .one) (placed one two r .two))
+  abbrev Good : End → RowStep → PairStep → Type 0
+  Good end r s =
+      Taken (s .at) end (bothLeft f g one two) (bothLeft f g (s .one) (s .two))
+      × (bothLeft f g (recordsAfter one two end r .one) (recordsAfter one two end r .two) ≡ bothLeft f g (s .one) (s .two))
+
+  abbrev GoodRow : End → RowStep → Type 0
+  GoodRow end r = Good end r (placed one two r)
 
   at-front : (x : Position) (s : Part) (y : Position) (t : Part) → Taken x Front (partLeft f one) (partLeft f s) → Taken y Front (partLeft g two) (partLeft g t)
-      → Good Front (tried false (record { at = x; part = s }) (record { at = y; part = t }))
+      → GoodRow Front (tried false (record { at = x; part = s }) (record { at = y; part = t }))
   at-front (At p) s y t h k = (ap (λ (xs : List ℕ). xs ++ partLeft g two) h, refl)
   at-front Nothing s (At p) t h k = (
     ap (λ (xs : List ℕ). xs ++ partLeft g two) (h .0) ∙ k ∙ ap (λ (xs : List ℕ). p ∷ (xs ++ partLeft g t)) (sym (h .0)),
@@ -46,7 +51,7 @@ module _ (f g : ℕ → Bool) (one two : Part) where
   at-front Nothing s Nothing t h k = ((ap₂ _++_ (h .0) (k .0), ap₂ _++_ (h .0) (k .1)), ap₂ _++_ (nothing-left f ∙ sym (h .0)) (nothing-left g ∙ sym (k .1)))
 
   at-back : (x : Position) (s : Part) (y : Position) (t : Part) → Taken x Back (partLeft g two) (partLeft g s) → Taken y Back (partLeft f one) (partLeft f t)
-      → Good Back (tried true (record { at = x; part = s }) (record { at = y; part = t }))
+      → GoodRow Back (tried true (record { at = x; part = s }) (record { at = y; part = t }))
   at-back (At p) s y t h k = (ap (λ (xs : List ℕ). partLeft f one ++ xs) h ∙ sym (append-assoc (partLeft f one) (partLeft g s) (p ∷ [])), refl)
   at-back Nothing s (At p) t h k = (
     ap₂ _++_ k (h .0) ∙ append-nil (partLeft f t ++ (p ∷ []))
@@ -55,9 +60,12 @@ module _ (f g : ℕ → Bool) (one two : Part) where
   )
   at-back Nothing s Nothing t h k = ((ap₂ _++_ (k .0) (h .0), ap₂ _++_ (k .1) (h .0)), ap₂ _++_ (nothing-left f ∙ sym (k .1)) (nothing-left g ∙ sym (h .0)))
 
-  pub row-good : (end : End) → Good end (rowStep end f g one two)
-  row-good Front = at-front (front f one .at) (front f one .part) (front g two .at) (front g two .part) (step-taken f one Front) (step-taken g two Front)
-  row-good Back = at-back (back g two .at) (back g two .part) (back f one .at) (back f one .part) (step-taken g two Back) (step-taken f one Back)
+  row-placed : (end : End) → GoodRow end (rowStep end f g one two)
+  row-placed Front = at-front (front f one .at) (front f one .part) (front g two .at) (front g two .part) (step-taken f one Front) (step-taken g two Front)
+  row-placed Back = at-back (back g two .at) (back g two .part) (back f one .at) (back f one .part) (step-taken g two Back) (step-taken f one Back)
+
+  pub row-good : (end : End) → Good end (rowStep end f g one two) (pairStep end f g one two)
+  row-good end = subst (Good end (rowStep end f g one two)) (placed-is f g one two end) (row-placed end)
 
 -- ---- two results of one step of the same list are equal
 
