@@ -1,3 +1,4 @@
 pub mod ManyLaws
 pub mod FillLaws
 pub mod CallLaws
+pub mod MixLaws

@@ -1,7 +1,7 @@
 -- Front steps in a row, by the next position of a part. Assumes nothing.
 use mathlib.Core.Path.{_≡_, refl, sym, ap, _∙_}
 use mathlib.Core.Bool.{Bool, true, false}
-use mathlib.Core.List.{List, [], _∷_, _++_}
+use mathlib.Core.List.{List, [], _∷_, _++_, append-nil}
 use Prim.Native.Nat.{ℕ, zero, suc, _+_, _-_, _≤_, _<_}
 use native.Mathlib.Nat.{le-refl, le-trans}
 use native.Mathlib.Omega.{arith}
@@ -98,3 +98,12 @@ module _ (f g : ℕ → Bool) where
           ∙ ap (λ (i : ℕ). joined (record { positions = []; part = one }) (record { positions = positionOf (front g two .at) ++ frontSteps i g (front g two .part) .positions; part = frontSteps i g (front g two .part) .part })) x
           ∙ ap (λ (i : ℕ). joined (record { positions = []; part = one }) (frontSteps i g two)) y
           ∙ ap (λ (m : Many). joined m (rest (suc n) m two)) (sym none)
+
+-- a walk of one part has nothing in the second: the steps are those of the first alone
+pub pairs-alone : (f : ℕ → Bool) (n : ℕ) (one two : Part)
+    → frontPairs n f (λ p. false) one two ≡ record { positions = frontSteps n f one .positions; one = frontSteps n f one .part; two = two }
+pairs-alone f n one two =
+    let m = frontSteps n f one in
+    pairs-are f (λ p. false) n one two
+    ∙ ap (joined m) (steps-none (λ p. false) two (λ p a b. refl) (n - length (m .positions)))
+    ∙ ap (λ (xs : List ℕ). record { positions = xs; one = m .part; two = two }) (append-nil (m .positions))

@@ -1,3 +1,4 @@
 pub mod Many
+pub mod Mixes
 pub mod Rules
 pub mod Helpers
