@@ -1,27 +1,22 @@
 -- The next position of a part, by the first or the last word that has one. Assumes nothing.
 use mathlib.Core.Path.{_≡_, refl, sym, ap, ap₂, _∙_}
-use mathlib.Core.Bool.{Bool, true, false, cond}
-use Prim.Native.Nat.{ℕ, zero, suc, _+_, _-_, _≤_, _<_}
+use mathlib.Core.Bool.{Bool, true, false, cond, _&&_}
+use mathlib.Core.Logic.{_⊎_, inl, inr}
+use Prim.Native.Nat.{ℕ, zero, suc, _+_, _-_, _≤_, _<_, max}
 use native.Mathlib.Nat.{le-refl, add-sub-of-le}
 use native.Mathlib.Omega.{arith}
 use borrow.Author.Tests.{lt-ltb, le-ltb}
 use lib.Dec.{ltb}
 use Rattle.word_bits.specs.Counts.{zerosBelow, zerosAbove}
-use Rattle.word_bits.proofs.Ends.{below-at, below-le, below-none, above-at, above-le, above-none}
+use Rattle.word_bits.proofs.Ends.{below-at, below-no, below-none, below-yes, above-at, above-no, above-none, above-yes}
+use Rattle.word_bits.proofs.Order.{lt-or-le}
 use Rattle.sets.specs.declared.answers.Position.the-variants.{At, Nothing}
+use Rattle.parts.specs.Helpers.{topOf, nextFrom, bottomOf, prevFrom}
 use Rattle.parts.specs.Steps.{taken, ahead, behind, front, back, step}
 use Rattle.parts.specs.declared.records.End.{End}
 use Rattle.parts.specs.declared.records.Step.{Step}
 use Rattle.parts.specs.declared.records.End.the-variants.{Front, Back}
 use Rattle.sets.specs.declared.answers.Part.{Part}
-
--- ---- a part of no positions
-
-pub ahead-empty : (has : ℕ → Bool) (part : Part) → part .high ≤ part .low → part .low + ahead has part ≡ part .low
-ahead-empty has part h = let z = below-le (part .high - part .low) (λ j. has (part .low + j)) in omega (arith, z)
-
-pub behind-empty : (has : ℕ → Bool) (part : Part) → part .high ≤ part .low → part .high - behind has part ≡ part .high
-behind-empty has part h = let z = above-le (part .high - part .low) (λ j. has (part .low + j)) in omega (arith, z)
 
 -- ---- a step by its position
 
@@ -62,35 +57,93 @@ module _ (has : ℕ → Bool) (part : Part) where
         (lt-ltb (behind has part) (part .high - part .low) (omega (arith, z)))
         ∙ ap (λ (x : ℕ). record { at = At x; part = record { low = part .low; high = x } }) e
 
--- ---- a step by what a search found: the next position, or high for none; one above it, or low for none
+-- ---- a step by what a search found: a position, or one from high up for none; one above a position, or a number up to low for none
 
 module _ (has : ℕ → Bool) (part : Part) (r : ℕ) where
-  pub front-found : r ≡ part .low + ahead has part → r < part .high → record { at = At r; part = record { low = r + 1; high = part .high } } ≡ front has part
-  unfolding front
-  front-found e l =
-      ap (λ (p : ℕ). record { at = At p; part = record { low = p + 1; high = part .high } }) e
-      ∙ ap (λ (t : Bool). taken t (part .low + ahead has part) (record { low = part .low + ahead has part + 1; high = part .high }) part)
-      (sym (lt-ltb (ahead has part) (part .high - part .low) (omega arith)))
+  abbrev top : ℕ
+  top = topOf (part .low) (part .high)
 
-  pub front-lacks : r ≡ part .low + ahead has part → part .high ≤ r → record { at = Nothing; part = part } ≡ front has part
-  unfolding front
-  front-lacks e g =
-      ap (λ (t : Bool). taken t (part .low + ahead has part) (record { low = part .low + ahead has part + 1; high = part .high }) part)
-      (sym (le-ltb (ahead has part) (part .high - part .low) (omega arith)))
+  abbrev up : ℕ → Bool
+  up j = has (part .low + j)
 
-  pub back-found : r ≡ part .high - behind has part → part .low < r → record { at = At (r - 1); part = record { low = part .low; high = r - 1 } } ≡ back has part
-  unfolding back
-  back-found e l =
-      let p : r - 1 ≡ part .high - suc (behind has part) = omega arith in
-      ap (λ (q : ℕ). record { at = At q; part = record { low = part .low; high = q } }) p
-      ∙ ap (λ (t : Bool). taken t (part .high - suc (behind has part)) (record { low = part .low; high = part .high - suc (behind has part) }) part)
-      (sym (lt-ltb (behind has part) (part .high - part .low) (omega arith)))
+  abbrev steps-up : ℕ
+  steps-up = zerosBelow (top - part .low) up
 
-  pub back-lacks : r ≡ part .high - behind has part → r ≤ part .low → record { at = Nothing; part = part } ≡ back has part
-  unfolding back
-  back-lacks e g =
-      ap (λ (t : Bool). taken t (part .high - suc (behind has part)) (record { low = part .low; high = part .high - suc (behind has part) }) part)
-      (sym (le-ltb (behind has part) (part .high - part .low) (omega arith)))
+  passed-up : (q : ℕ) → part .low ≤ q → q < part .low + steps-up → has q ≡ false
+  passed-up q a b = ap has (sym (add-sub-of-le a)) ∙ below-no (top - part .low) up (q - part .low) (omega arith)
+
+  module _ (e : r ≡ nextFrom has (part .low) (part .high)) where
+    next-found : steps-up < top - part .low → r ≡ part .low + steps-up
+    unfolding nextFrom
+    next-found l = e ∙ ap (λ (t : Bool). cond t (part .low + steps-up) (max (part .low) (part .high))) (lt-ltb steps-up (top - part .low) l)
+
+    next-lacks : top - part .low ≤ steps-up → r ≡ max (part .low) (part .high)
+    unfolding nextFrom
+    next-lacks g = e ∙ ap (λ (t : Bool). cond t (part .low + steps-up) (max (part .low) (part .high))) (le-ltb steps-up (top - part .low) g)
+
+    pub front-found : r < part .high → record { at = At r; part = record { low = r + 1; high = part .high } } ≡ front has part
+    front-found l = go (lt-or-le steps-up (top - part .low))
+      where
+        go : (steps-up < top - part .low) ⊎ (top - part .low ≤ steps-up) → record { at = At r; part = record { low = r + 1; high = part .high } } ≡ front has part
+        go (inl i) =
+            let at = next-found i in
+            sym (front-at has part r (omega arith) l (ap has at ∙ below-yes (top - part .low) up i) (λ q a b. passed-up q a (omega arith)))
+        go (inr g) = absurd (omega (arith, next-lacks g))
+
+    pub front-lacks : part .high ≤ r → record { at = Nothing; part = part } ≡ front has part
+    front-lacks h = go (lt-or-le steps-up (top - part .low))
+      where
+        go : (steps-up < top - part .low) ⊎ (top - part .low ≤ steps-up) → record { at = Nothing; part = part } ≡ front has part
+        go (inl i) = sym (front-none has part (λ q a b. passed-up q a (omega (arith, next-found i))))
+        go (inr g) = sym (front-none has part (λ q a b. passed-up q a (omega arith)))
+
+  abbrev bottom : ℕ
+  bottom = bottomOf (part .low)
+
+  abbrev down : ℕ → Bool
+  down j = has (bottom + j)
+
+  abbrev steps-down : ℕ
+  steps-down = zerosAbove (part .high - bottom) down
+
+  passed-down : (q : ℕ) → bottom ≤ q → q < part .high → part .high ≤ q + steps-down → has q ≡ false
+  passed-down q a b l = ap has (sym (add-sub-of-le a)) ∙ above-no (part .high - bottom) down (q - bottom) (omega arith) (omega arith)
+
+  module _ (e : r ≡ prevFrom has (part .low) (part .high)) where
+    abbrev picked : Bool → Bool → ℕ
+    picked s t = cond (s && t) (part .high - steps-down) (part .low)
+
+    prev-empty : part .high ≤ part .low → r ≡ part .low
+    unfolding prevFrom
+    prev-empty g = e ∙ ap (λ (s : Bool). picked s (ltb steps-down (part .high - bottom))) (le-ltb (part .low) (part .high) g)
+
+    prev-found : part .low < part .high → steps-down < part .high - bottom → r ≡ part .high - steps-down
+    unfolding prevFrom
+    prev-found h l = e ∙ ap₂ picked (lt-ltb (part .low) (part .high) h) (lt-ltb steps-down (part .high - bottom) l)
+
+    prev-lacks : part .low < part .high → part .high - bottom ≤ steps-down → r ≡ part .low
+    unfolding prevFrom
+    prev-lacks h g = e ∙ ap₂ picked (lt-ltb (part .low) (part .high) h) (le-ltb steps-down (part .high - bottom) g)
+
+    pub back-found : part .low < r → record { at = At (r - 1); part = record { low = part .low; high = r - 1 } } ≡ back has part
+    back-found l = go (lt-or-le (part .low) (part .high)) (lt-or-le steps-down (part .high - bottom))
+      where
+        go : (part .low < part .high) ⊎ (part .high ≤ part .low) → (steps-down < part .high - bottom) ⊎ (part .high - bottom ≤ steps-down)
+            → record { at = At (r - 1); part = record { low = part .low; high = r - 1 } } ≡ back has part
+        go (inl h) (inl i) =
+            let at = prev-found h i in
+            let p : bottom + (part .high - bottom - suc steps-down) ≡ r - 1 = omega (arith, at) in
+            sym (back-at has part (r - 1) (omega arith) (omega (arith, at)) (ap has (sym p) ∙ above-yes (part .high - bottom) down i) (λ q a b. passed-down q (omega arith) b (omega (arith, at))))
+        go (inl h) (inr g) = absurd (omega (arith, prev-lacks h g))
+        go (inr g) w = absurd (omega (arith, prev-empty g))
+
+    pub back-lacks : r ≤ part .low → record { at = Nothing; part = part } ≡ back has part
+    back-lacks l = go (lt-or-le (part .low) (part .high)) (lt-or-le steps-down (part .high - bottom))
+      where
+        go : (part .low < part .high) ⊎ (part .high ≤ part .low) → (steps-down < part .high - bottom) ⊎ (part .high - bottom ≤ steps-down) → record { at = Nothing; part = part } ≡ back has part
+        go (inl h) (inl i) = sym (back-none has part (λ q a b. passed-down q (omega arith) b (omega (arith, prev-found h i))))
+        go (inl h) (inr g) = sym (back-none has part (λ q a b. passed-down q (omega arith) b (omega arith)))
+        go (inr g) w = sym (back-none has part (λ q a b. absurd (omega arith)))
 
 -- a front step gives a position, or none and the record as it was
 pub front-cases : (P : Step → Type 0) (has : ℕ → Bool) (part : Part) → ((p : ℕ) → P (record { at = At p; part = record { low = p + 1; high = part .high } }))

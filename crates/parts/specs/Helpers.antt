@@ -1,9 +1,12 @@
 -- What the search is made of: selected words, and the words that it stops at.
 use mathlib.Core.Path.{_≡_}
+use mathlib.Core.Bool.{Bool, cond, _&&_}
 use mathlib.Core.List.{List}
-use Prim.Native.Nat.{ℕ, _-_, _^_, _≤_, _<_}
+use Prim.Native.Nat.{ℕ, _+_, _-_, _*_, _/_, _^_, _≤_, _<_, max}
 use lib.Bits.{bitAnd}
+use lib.Dec.{ltb}
 use lib.ListN.{getD}
+use Rattle.word_bits.specs.Counts.{zerosBelow, zerosAbove}
 use Rattle.parts.specs.declared.records.Selection.{Selection}
 use Rattle.parts.specs.declared.records.Selection.the-variants.{Ones, Zeroes, Intersection, Difference}
 
@@ -31,3 +34,19 @@ pub record LastWord (f : ℕ → ℕ) (first end r : ℕ) : Type 0 where
   pub upto : r ≤ end
   pub after : (i : ℕ) → r ≤ i → i < end → f i ≡ 0
   pub stops : first < r → f (r - 1) ≡ 0 → ⊥
+
+-- the next position from low up, looked for to the end of the word that the last position of the part lies in: high is asked of what is found. Where there is none, the larger of low and high
+abbrev pub topOf : ℕ → ℕ → ℕ
+topOf low high = (max low (high - 1) / 64 + 1) * 64
+
+unfoldable pub nextFrom : (ℕ → Bool) → ℕ → ℕ → ℕ
+nextFrom has low high =
+    cond (ltb (zerosBelow (topOf low high - low) (λ j. has (low + j))) (topOf low high - low)) (low + zerosBelow (topOf low high - low) (λ j. has (low + j))) (max low high)
+
+-- one above the next position from high down, looked for to the start of low's word: low is asked of what is found. Where there is none, low
+abbrev pub bottomOf : ℕ → ℕ
+bottomOf low = low / 64 * 64
+
+unfoldable pub prevFrom : (ℕ → Bool) → ℕ → ℕ → ℕ
+prevFrom has low high =
+    cond (ltb low high && ltb (zerosAbove (high - bottomOf low) (λ j. has (bottomOf low + j))) (high - bottomOf low)) (high - zerosAbove (high - bottomOf low) (λ j. has (bottomOf low + j))) low

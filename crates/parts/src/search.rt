@@ -1,15 +1,12 @@
 use crate::records::Selection;
 use crate::words::selected_word;
-use blocks::larger;
-use blocks::lesser;
 use word_bits::leading_zeros;
 use word_bits::trailing_zeros;
 ghost use mathlib.Core.Path.{_≡_};
-ghost use Prim.Native.Nat.{ℕ, _+_, _-_, _≤_};
+ghost use Prim.Native.Nat.{ℕ, _≤_};
 ghost use Rattle.sets.specs.Members.{bitOf};
-ghost use Rattle.parts.specs.Helpers.{FirstWord, LastWord, selectedWord};
+ghost use Rattle.parts.specs.Helpers.{FirstWord, LastWord, selectedWord, nextFrom, prevFrom};
 ghost use Rattle.parts.specs.Selections.{selected};
-ghost use Rattle.parts.specs.Steps.{ahead, behind};
 
 // The first word of first..end that has a selected position, or the end.
 fn next_word(words: &[u64], other: &[u64], selection: Selection, first: usize, end: usize) -> usize
@@ -45,7 +42,7 @@ fn above_word(words: &[u64], other: &[u64], selection: Selection, first: usize, 
     }
 }
 
-// The smallest selected position from low up: high, where low <= high, if there is none below high.
+// The smallest selected position from low up, or one from high up for none: high is the caller's to ask.
 pub fn front_selected(
     words: &[u64],
     other: &[u64],
@@ -53,29 +50,26 @@ pub fn front_selected(
     low: usize,
     high: usize,
 ) -> usize
-    ensures { λ r. ⌜ r ≡ low + ahead (λ (p : ℕ). selected selection (bitOf (now (words .entry)) p) (bitOf (now (other .entry)) p)) (record { low = low; high = high }) ⌝ }
+    ensures { λ r. ⌜ r ≡ nextFrom (λ (p : ℕ). selected selection (bitOf (now (words .entry)) p) (bitOf (now (other .entry)) p)) low high ⌝ }
 {
-    if high <= low {
-        return low;
-    }
     let first = low / 64;
     let from = low % 64;
     let word = selected_word(words, other, selection, first) & (u64::MAX << from);
     if word != 0 {
-        return lesser(first * 64 + trailing_zeros(word), high);
+        return first * 64 + trailing_zeros(word);
+    }
+    if high <= low {
+        return low;
     }
     let end = (high - 1) / 64 + 1;
     let k = next_word(words, other, selection, first + 1, end);
     if end <= k {
         return high;
     }
-    lesser(
-        k * 64 + trailing_zeros(selected_word(words, other, selection, k)),
-        high,
-    )
+    k * 64 + trailing_zeros(selected_word(words, other, selection, k))
 }
 
-// One above the largest selected position below high: low, where low <= high, if there is none from low up.
+// One above the largest selected position below high, or a number up to low for none: low is the caller's to ask.
 pub fn back_selected(
     words: &[u64],
     other: &[u64],
@@ -83,24 +77,21 @@ pub fn back_selected(
     low: usize,
     high: usize,
 ) -> usize
-    ensures { λ r. ⌜ r ≡ high - behind (λ (p : ℕ). selected selection (bitOf (now (words .entry)) p) (bitOf (now (other .entry)) p)) (record { low = low; high = high }) ⌝ }
+    ensures { λ r. ⌜ r ≡ prevFrom (λ (p : ℕ). selected selection (bitOf (now (words .entry)) p) (bitOf (now (other .entry)) p)) low high ⌝ }
 {
     if high <= low {
-        return high;
+        return low;
     }
     let last = (high - 1) / 64;
     let upto = 63 - (high - 1) % 64;
     let word = selected_word(words, other, selection, last) & (u64::MAX >> upto);
     if word != 0 {
-        return larger(last * 64 + (64 - leading_zeros(word)), low);
+        return last * 64 + (64 - leading_zeros(word));
     }
     let first = low / 64;
     let above = above_word(words, other, selection, first, last);
     if above <= first {
         return low;
     }
-    larger(
-        (above - 1) * 64 + (64 - leading_zeros(selected_word(words, other, selection, above - 1))),
-        low,
-    )
+    (above - 1) * 64 + (64 - leading_zeros(selected_word(words, other, selection, above - 1)))
 }
