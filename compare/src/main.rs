@@ -59,6 +59,9 @@ fn main() {
         ["--bench"] => bench::run(DEFAULT_SEED),
         #[cfg(feature = "archive")]
         ["--bench", "--seed", seed] => bench::run(seed_of(seed)),
+        // The table's own run under callgrind.
+        #[cfg(feature = "archive")]
+        ["--bench-counted", seed] => bench::run_counted(seed_of(seed)),
         _ => usage(),
     }
 }

@@ -1,0 +1,175 @@
+//! Rows of walks: steps one by one, and whole walks by iterators.
+
+use super::again;
+use super::sets::Twice;
+use super::Bench;
+use lent_bit_sets::ffi::*;
+use std::hint::black_box;
+
+/// About so many steps are taken in a run, from the start of the walk.
+const STEPS: usize = 2_048;
+
+/// A step as the engine gives it.
+trait Stepped {
+    type Records: Copy;
+    fn at(&self) -> usize;
+    fn records(&self) -> Self::Records;
+}
+
+impl Stepped for FbsStepped {
+    type Records = FbsPart;
+
+    fn at(&self) -> usize {
+        self.at
+    }
+
+    fn records(&self) -> FbsPart {
+        self.part
+    }
+}
+
+impl Stepped for FbsSteppedPair {
+    type Records = (FbsPart, FbsPart);
+
+    fn at(&self) -> usize {
+        self.at
+    }
+
+    fn records(&self) -> (FbsPart, FbsPart) {
+        (self.one, self.two)
+    }
+}
+
+/// Sets and name of the rows of a walk; at most so many steps are taken.
+struct Steps<'b> {
+    bench: &'b mut Bench,
+    name: String,
+    length: usize,
+    most: usize,
+}
+
+impl Steps<'_> {
+    /// Steps from the first records on, one call each, beside the Rust's iterator; a short walk is taken again.
+    fn row<S: Stepped, I: Iterator<Item = usize>>(&mut self, name: &str, first: S::Records, step: impl Fn(S::Records) -> S, walk: impl Fn() -> I) {
+        let n = walk().count().min(self.most);
+        if n == 0 {
+            return;
+        }
+        let times = self.most.div_ceil(n);
+        let ours = || {
+            again(times, || {
+                let mut records = first;
+                let mut sum = 0_usize;
+                for _ in 0..n {
+                    let stepped = step(records);
+                    sum = sum.wrapping_add(stepped.at());
+                    records = stepped.records();
+                }
+                sum
+            })
+        };
+        let rust = || {
+            again(times, || {
+                let mut walk = walk();
+                let mut sum = 0_usize;
+                for _ in 0..n {
+                    sum = sum.wrapping_add(walk.next().unwrap_or(0));
+                }
+                sum
+            })
+        };
+        self.bench.row(&format!("{name}, {}", self.name), self.length, times * n, ours, rust);
+    }
+}
+
+pub fn steps(bench: &mut Bench, name: &str, a: &Twice, b: &Twice) {
+    // The non-members of the complement are as many as the members of the first set.
+    let complement = Twice::new(a.length, |p| !a.rust.contains(p));
+    let ((s, w, n), (t, v, m), (c, u, k)) = (a.raw(), b.raw(), complement.raw());
+    let first = a.first();
+    let mut rows = Steps { bench: &mut *bench, name: name.into(), length: a.length, most: STEPS };
+    // SAFETY: the pointers and the numbers of words are those of vectors that live as long.
+    unsafe {
+        rows.row("step of ones", first, |p| fbs_ones_next(s, w, n, p), || a.rust.ones());
+        rows.row("back step of ones", first, |p| fbs_ones_next_back(s, w, n, p), || a.rust.ones().rev());
+        rows.row("step of zeroes", first, |p| fbs_zeroes_next(c, u, k, p), || complement.rust.zeroes());
+        rows.row("step of intersection", first, |p| fbs_intersection_next(s, w, n, t, v, m, p), || a.rust.intersection(&b.rust));
+        rows.row("back step of intersection", first, |p| fbs_intersection_next_back(s, w, n, t, v, m, p), || a.rust.intersection(&b.rust).rev());
+        rows.row("step of difference", first, |p| fbs_difference_next(s, w, n, t, v, m, p), || a.rust.difference(&b.rust));
+        rows.row("back step of difference", first, |p| fbs_difference_next_back(s, w, n, t, v, m, p), || a.rust.difference(&b.rust).rev());
+    }
+    steps_of_union(bench, name, a, b, STEPS);
+    let mut rows = Steps { bench, name: name.into(), length: a.length, most: STEPS };
+    let both = (first, b.first());
+    // SAFETY: as above.
+    unsafe {
+        rows.row(
+            "step of symmetric_difference",
+            both,
+            |(p, q)| fbs_symmetric_difference_next(s, w, n, t, v, m, p, q),
+            || a.rust.symmetric_difference(&b.rust),
+        );
+        rows.row(
+            "back step of symmetric_difference",
+            both,
+            |(p, q)| fbs_symmetric_difference_next_back(s, w, n, t, v, m, p, q),
+            || a.rust.symmetric_difference(&b.rust).rev(),
+        );
+    }
+}
+
+pub fn steps_of_union(bench: &mut Bench, name: &str, a: &Twice, b: &Twice, most: usize) {
+    let ((s, w, n), (t, v, m)) = (a.raw(), b.raw());
+    let both = (a.first(), b.first());
+    let mut rows = Steps { bench, name: name.into(), length: a.length, most };
+    // SAFETY: the pointers and the numbers of words are those of vectors that live as long.
+    unsafe {
+        rows.row("step of union", both, |(p, q)| fbs_union_next(s, w, n, t, v, m, p, q), || a.rust.union(&b.rust));
+        rows.row("back step of union", both, |(p, q)| fbs_union_next_back(s, w, n, t, v, m, p, q), || a.rust.union(&b.rust).rev());
+    }
+}
+
+/// The sum of a walk by a caller's loop.
+fn sum(walk: impl Iterator<Item = usize>) {
+    let mut sum = 0_usize;
+    for p in walk {
+        sum = sum.wrapping_add(p);
+    }
+    black_box(sum);
+}
+
+/// The iterators of the bindings beside the Rust's, whole walks: a loop, and `collect`.
+fn iterator<I: Iterator<Item = usize>, J: Iterator<Item = usize>>(
+    bench: &mut Bench,
+    name: &str,
+    length: usize,
+    ours: impl Fn() -> I,
+    rust: impl Fn() -> J,
+) {
+    let per = rust().count().max(1);
+    bench.row(&format!("for, {name}"), length, per, || sum(ours()), || sum(rust()));
+    bench.row(
+        &format!("collect, {name}"),
+        length,
+        per,
+        || drop(black_box(ours().collect::<Vec<_>>())),
+        || drop(black_box(rust().collect::<Vec<_>>())),
+    );
+}
+
+pub fn iterators(bench: &mut Bench, name: &str, a: &Twice, b: &Twice) {
+    let complement = Twice::new(a.length, |p| !a.rust.contains(p));
+    let (x, y, length) = (a.view(), b.view(), a.length);
+    iterator(bench, &format!("ones, {name}"), length, || x.ones(), || a.rust.ones());
+    iterator(bench, &format!("ones back, {name}"), length, || x.ones().rev(), || a.rust.ones().rev());
+    iterator(bench, &format!("zeroes, {name}"), length, || complement.view().zeroes(), || complement.rust.zeroes());
+    iterator(bench, &format!("intersection, {name}"), length, || x.intersection(y), || a.rust.intersection(&b.rust));
+    iterator(bench, &format!("difference, {name}"), length, || x.difference(y), || a.rust.difference(&b.rust));
+    iterators_of_union(bench, name, a, b);
+    iterator(bench, &format!("symmetric_difference, {name}"), length, || x.symmetric_difference(y), || a.rust.symmetric_difference(&b.rust));
+}
+
+pub fn iterators_of_union(bench: &mut Bench, name: &str, a: &Twice, b: &Twice) {
+    let (x, y) = (a.view(), b.view());
+    iterator(bench, &format!("union, {name}"), a.length, || x.union(y), || a.rust.union(&b.rust));
+}
