@@ -1,6 +1,7 @@
 //! The engine's archive, through the raw C interface of the bindings.
 
-use crate::cases::{accepted, Answer, Call, Case, Edit, Engine, History, Lent, Outcome, Ran, Record, Walk, WalkCase, Walked};
+use crate::cases::{accepted, Answer, Call, Case, Edit, Engine, History, Lent, Outcome, Ran, Record, Step, Walk, WalkCase, Walked};
+use crate::inputs::CALLERS;
 use lent_bit_sets::ffi::*;
 
 pub struct Archive;
@@ -138,7 +139,8 @@ fn of_sets(case: &mut Case) -> Outcome {
                 Outcome { number, answer: Answer::Part { second: longer.second, offset: longer.offset, count: longer.count } }
             }
             Call::FirstPart => accepted(Answer::Record(record(fbs_first_part(s)))),
-            Call::Step { walk, back, one, two } => step(walk, back, &mut case.a, &mut case.b, one, two),
+            Call::Step { walk, back, one, two } => step(walk, back, &case.a, &case.b, one, two),
+            Call::NextMany { walk, one, two } => next_many(walk, &case.a, &case.b, one, two, &mut case.out),
             Call::WalkerStep { back, part: p } => stepped(fbs_walker_step(s, r, n, part(p), back), Record::EMPTY),
             _ => unreachable!("every call has a function"),
         }
@@ -154,7 +156,8 @@ fn stepped_pair(step: FbsSteppedPair) -> Outcome {
     Outcome { number: step.number, answer }
 }
 
-fn step(walk: Walk, back: bool, a: &mut Lent, b: &mut Lent, one: Record, two: Record) -> Outcome {
+/// One step.
+pub fn step(walk: Walk, back: bool, a: &Lent, b: &Lent, one: Record, two: Record) -> Outcome {
     let (s, w, n) = (set(a), a.words.as_ptr(), a.words.len());
     let (t, v, m) = (set(b), b.words.as_ptr(), b.words.len());
     let (p, q) = (part(one), part(two));
@@ -176,6 +179,43 @@ fn step(walk: Walk, back: bool, a: &mut Lent, b: &mut Lent, one: Record, two: Re
     }
 }
 
+fn many(many: FbsNextMany, two: Record) -> Outcome {
+    Outcome { number: many.number, answer: Answer::Many { count: many.count, one: record(many.part), two } }
+}
+
+fn many_pair(many: FbsNextManyPair) -> Outcome {
+    Outcome { number: many.number, answer: Answer::Many { count: many.count, one: record(many.one), two: record(many.two) } }
+}
+
+/// Front steps in one call.
+fn next_many(walk: Walk, a: &Lent, b: &Lent, one: Record, two: Record, out: &mut [u64]) -> Outcome {
+    let (s, w, n) = (set(a), a.words.as_ptr(), a.words.len());
+    let (t, v, m) = (set(b), b.words.as_ptr(), b.words.len());
+    let (p, q) = (part(one), part(two));
+    let (o, k) = (out.as_mut_ptr(), out.len());
+    // SAFETY: each pointer is that of a slice, with its number of words; the three do not overlap.
+    unsafe {
+        match walk {
+            Walk::Ones => many(fbs_ones_next_many(s, w, n, p, o, k), two),
+            Walk::Zeroes => many(fbs_zeroes_next_many(s, w, n, p, o, k), two),
+            Walk::Intersection => many(fbs_intersection_next_many(s, w, n, t, v, m, p, o, k), two),
+            Walk::Difference => many(fbs_difference_next_many(s, w, n, t, v, m, p, o, k), two),
+            Walk::Union => many_pair(fbs_union_next_many(s, w, n, t, v, m, p, q, o, k)),
+            Walk::SymmetricDifference => many_pair(fbs_symmetric_difference_next_many(s, w, n, t, v, m, p, q, o, k)),
+        }
+    }
+}
+
+/// The answer of each word of a buffer after many steps: a position for each that is counted, none where the caller's word still stands. A word that was
+/// written and is not counted is shown as a position that no set has, so that it differs.
+pub fn of_buffer(out: &[u64], count: usize) -> impl Iterator<Item = Option<usize>> + '_ {
+    out.iter().enumerate().map(move |(k, word)| match *word {
+        word if k < count => Some(word as usize),
+        CALLERS => None,
+        word => Some(!word as usize),
+    })
+}
+
 /// The record of a set's part at first.
 fn first(lent: &Lent) -> Record {
     // SAFETY: a plain number.
@@ -195,18 +235,28 @@ impl Engine for Archive {
     }
 
     fn walk(&self, case: &WalkCase) -> Option<Walked> {
-        if case.walk == Walk::Zeroes && case.back.contains(&true) {
+        if case.walk == Walk::Zeroes && case.steps.contains(&Step::Back) {
             return None;
         }
-        let (mut a, mut b) = (case.a.clone(), case.b.clone());
-        let mut one = first(&a);
-        let mut two = if case.walk.of_two_parts() { first(&b) } else { Record::EMPTY };
-        let mut walked = Walked { number: 0, answers: Vec::with_capacity(case.back.len()), records: None };
-        for back in &case.back {
-            let outcome = step(case.walk, *back, &mut a, &mut b, one, two);
-            if let Answer::Stepped { found, one: first, two: second } = outcome.answer {
-                walked.answers.push(found);
-                (one, two) = (first, second);
+        let mut one = first(&case.a);
+        let mut two = if case.walk.of_two_parts() { first(&case.b) } else { Record::EMPTY };
+        let mut walked = Walked { number: 0, answers: Vec::with_capacity(case.answers()), records: None };
+        for given in &case.steps {
+            let mut out = vec![CALLERS; if let Step::Many(size) = given { *size } else { 0 }];
+            let outcome = match given {
+                Step::Many(_) => next_many(case.walk, &case.a, &case.b, one, two, &mut out),
+                end => step(case.walk, *end == Step::Back, &case.a, &case.b, one, two),
+            };
+            match outcome.answer {
+                Answer::Stepped { found, one: first, two: second } => {
+                    walked.answers.push(found);
+                    (one, two) = (first, second);
+                }
+                Answer::Many { count, one: first, two: second } => {
+                    walked.answers.extend(of_buffer(&out, count));
+                    (one, two) = (first, second);
+                }
+                _ => {}
             }
             if outcome.number != 0 {
                 walked.number = outcome.number;

@@ -1,7 +1,7 @@
 //! The engine's archive through the safe types of the bindings. They cannot hold a damaged set, so they are asked whole ones.
 
-use crate::by_name::{ask_by_name, steps};
-use crate::cases::{accepted, Answer, Call, Case, Edit, Engine, History, Lent, Outcome, Ran, Walk, WalkCase, Walked};
+use crate::by_name::{ask_by_name, front_steps, steps};
+use crate::cases::{accepted, Answer, Call, Case, Edit, Engine, History, Lent, Outcome, Ran, Step, Walk, WalkCase, Walked};
 use lent_bit_sets::history::{run_history, Walk as HistoryWalk};
 use lent_bit_sets::{masks, words, FixedBitSet, Refusal, View};
 use std::cmp::Ordering;
@@ -124,7 +124,7 @@ impl Engine for Bindings {
     fn walk(&self, case: &WalkCase) -> Option<Walked> {
         let a = view(&case.a)?;
         let b = if case.walk.of_two_sets() { view(&case.b)? } else { a };
-        let answers = walk_sets(case.walk, a, b, &case.back)?;
+        let answers = walk_sets(case.walk, a, b, &case.steps)?;
         Some(Walked { number: 0, answers, records: None })
     }
 

@@ -1,8 +1,26 @@
 //! The safe bindings have the names of the Rust, so what asks a set by name is written once for both.
 
+use crate::cases::Step;
+
 /// The position of each step.
-pub fn steps(mut walk: impl DoubleEndedIterator<Item = usize>, back: &[bool]) -> Vec<Option<usize>> {
-    back.iter().map(|back| if *back { walk.next_back() } else { walk.next() }).collect()
+pub fn steps(mut walk: impl DoubleEndedIterator<Item = usize>, steps: &[Step]) -> Vec<Option<usize>> {
+    let mut answers = Vec::new();
+    for step in steps {
+        match step {
+            Step::Back => answers.push(walk.next_back()),
+            step => answers.extend((0..step.answers()).map(|_| walk.next())),
+        }
+    }
+    answers
+}
+
+/// The same of a walk that has no steps at the back; none where there is one.
+pub fn front_steps(mut walk: impl Iterator<Item = usize>, steps: &[Step]) -> Option<Vec<Option<usize>>> {
+    if steps.contains(&Step::Back) {
+        return None;
+    }
+    let answers = steps.iter().map(|step| step.answers()).sum();
+    Some((0..answers).map(|_| walk.next()).collect())
 }
 
 /// Functions that ask a `$set`, which can be copied. `ranged`, of the place that uses this, gives the outcome of a call that can refuse its range.
@@ -48,18 +66,14 @@ macro_rules! ask_by_name {
         }
 
         /// A walk's steps by the iterators of the sets.
-        fn walk_sets(walk: Walk, a: $set, b: $set, back: &[bool]) -> Option<Vec<Option<usize>>> {
+        fn walk_sets(walk: Walk, a: $set, b: $set, given: &[Step]) -> Option<Vec<Option<usize>>> {
             Some(match walk {
-                Walk::Ones => steps(a.ones(), back),
-                Walk::Zeroes if back.contains(&true) => return None,
-                Walk::Zeroes => {
-                    let mut zeroes = a.zeroes();
-                    back.iter().map(|_| zeroes.next()).collect()
-                }
-                Walk::Intersection => steps(a.intersection(b), back),
-                Walk::Difference => steps(a.difference(b), back),
-                Walk::Union => steps(a.union(b), back),
-                Walk::SymmetricDifference => steps(a.symmetric_difference(b), back),
+                Walk::Ones => steps(a.ones(), given),
+                Walk::Zeroes => front_steps(a.zeroes(), given)?,
+                Walk::Intersection => steps(a.intersection(b), given),
+                Walk::Difference => steps(a.difference(b), given),
+                Walk::Union => steps(a.union(b), given),
+                Walk::SymmetricDifference => steps(a.symmetric_difference(b), given),
             })
         }
     };

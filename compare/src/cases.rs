@@ -177,6 +177,12 @@ pub enum Call {
         one: Record,
         two: Record,
     },
+    /// As many front steps as `out` has words.
+    NextMany {
+        walk: Walk,
+        one: Record,
+        two: Record,
+    },
     /// A step of the walker that keeps the set's words.
     WalkerStep {
         back: bool,
@@ -207,7 +213,7 @@ impl Call {
     pub fn reads_second(self) -> bool {
         match self {
             Call::Edit(edit) => edit.reads_other(),
-            Call::Step { walk, .. } => walk.of_two_sets(),
+            Call::Step { walk, .. } | Call::NextMany { walk, .. } => walk.of_two_sets(),
             Call::BitAnd | Call::BitOr | Call::BitXor => true,
             Call::UnionCount | Call::IntersectionCount | Call::DifferenceCount | Call::SymmetricDifferenceCount => true,
             Call::IsDisjoint | Call::IsSubset | Call::IsSuperset | Call::Eq | Call::Cmp | Call::Longer => true,
@@ -250,6 +256,12 @@ pub enum Answer {
         one: Record,
         two: Record,
     },
+    /// How many positions are in the first words of `out`.
+    Many {
+        count: usize,
+        one: Record,
+        two: Record,
+    },
     LastBit {
         position: usize,
         rest: u64,
@@ -274,16 +286,48 @@ pub fn accepted(answer: Answer) -> Outcome {
     Outcome { number: 0, answer }
 }
 
-/// A walk from its first records on; `back` says of each step at which end it is.
+/// A step of a walk, or many front steps in one call.
+#[derive(Clone, Copy, Debug, PartialEq, Eq)]
+pub enum Step {
+    Front,
+    Back,
+    Many(usize),
+}
+
+impl Step {
+    pub fn at(back: bool) -> Step {
+        if back {
+            Step::Back
+        } else {
+            Step::Front
+        }
+    }
+
+    /// How many answers it has.
+    pub fn answers(self) -> usize {
+        match self {
+            Step::Front | Step::Back => 1,
+            Step::Many(size) => size,
+        }
+    }
+}
+
+/// A walk from its first records on.
 #[derive(Clone, Debug, PartialEq, Eq)]
 pub struct WalkCase {
     pub walk: Walk,
     pub a: Lent,
     pub b: Lent,
-    pub back: Vec<bool>,
+    pub steps: Vec<Step>,
 }
 
-/// The position of each step, and the records after the last; the reference has no records.
+impl WalkCase {
+    pub fn answers(&self) -> usize {
+        self.steps.iter().map(|step| step.answers()).sum()
+    }
+}
+
+/// The position of each step, and the records after the last; the reference has no records. Many front steps have an answer each.
 #[derive(Clone, Debug, PartialEq, Eq)]
 pub struct Walked {
     pub number: u64,

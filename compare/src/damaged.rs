@@ -63,6 +63,12 @@ fn single(judge: &mut Judge, length: usize, a: &Lent) -> Result<(), Difference> 
             calls.push(Call::WalkerStep { back, part });
         }
         calls.push(Call::Step { walk: Walk::Zeroes, back: false, one: part, two: Record::EMPTY });
+        for walk in [Walk::Ones, Walk::Zeroes] {
+            for size in [0, 1, 200] {
+                let call = Call::NextMany { walk, one: part, two: Record::EMPTY };
+                judge.check(&Case { call, a: a.clone(), b: Lent::EMPTY, out: vec![CALLERS; size] })?;
+            }
+        }
     }
     calls.into_iter().try_for_each(|call| judge.check(&one(call, a.clone())))
 }
@@ -74,11 +80,15 @@ fn pair(judge: &mut Judge, length: usize, a: &Lent, other: usize, b: &Lent) -> R
         }
     }
     for walk in Walk::OF_TWO_SETS {
-        for back in [false, true] {
-            for one in records(length) {
-                for two in records(other) {
+        for one in records(length) {
+            for two in records(other) {
+                for back in [false, true] {
                     let call = Call::Step { walk, back, one, two };
                     judge.check(&Case { call, a: a.clone(), b: b.clone(), out: Vec::new() })?;
+                }
+                for size in [0, 1, 70] {
+                    let call = Call::NextMany { walk, one, two };
+                    judge.check(&Case { call, a: a.clone(), b: b.clone(), out: vec![CALLERS; size] })?;
                 }
             }
         }
@@ -96,7 +106,9 @@ fn every_stray_bit(judge: &mut Judge, length: usize) -> Result<(), Difference> {
         for call in calls {
             judge.check(&one(call, stray.clone()))?;
         }
-        for call in OF_TWO {
+        let record = Record { low: 0, high: length };
+        let many = Walk::ALL.map(|walk| Call::NextMany { walk, one: record, two: record });
+        for call in OF_TWO.into_iter().chain(many) {
             judge.check(&Case { call, a: stray.clone(), b: whole.clone(), out: vec![CALLERS; 2] })?;
             judge.check(&Case { call, a: whole.clone(), b: stray.clone(), out: vec![CALLERS; 2] })?;
         }

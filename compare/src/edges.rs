@@ -1,7 +1,7 @@
 //! Sets at the edges of words, up to the longest.
 
-use crate::cases::{Call, Case, Edit, Lent, Record, Walk, WalkCase};
-use crate::inputs::{at_position, one, over_range, random_set, set, to_length, words_of, CALLERS, MOST, OF_TWO, PLAIN};
+use crate::cases::{Call, Case, Edit, Lent, Record, Step, Walk, WalkCase};
+use crate::inputs::{at_position, one, over_range, random_set, set, to_length, words_of, BUFFERS, CALLERS, MOST, OF_TWO, PLAIN};
 use crate::judge::{Difference, Judge};
 use crate::prng::Prng;
 
@@ -61,7 +61,8 @@ fn around(judge: &mut Judge, random: &mut Prng, n: usize, all: bool) -> Result<(
         }
     }
     beside(judge, random, n, &mixed, all)?;
-    last_steps(judge, random, n, &mixed, &ends)
+    last_steps(judge, random, n, &mixed, &ends)?;
+    many(judge, random, n, [&mixed, &ends, &full], all)
 }
 
 /// The calls on each of the sets, or on some.
@@ -100,10 +101,10 @@ fn beside(judge: &mut Judge, random: &mut Prng, n: usize, mixed: &Lent, all: boo
 /// Some steps at both ends, and steps with a record that stands at the end.
 fn last_steps(judge: &mut Judge, random: &mut Prng, n: usize, mixed: &Lent, ends: &Lent) -> Result<(), Difference> {
     let walk = Walk::OF_HISTORIES[random.below(5)];
-    let back: Vec<bool> = (0..6).map(|_| random.yes()).collect();
-    judge.check(&WalkCase { walk, a: mixed.clone(), b: ends.clone(), back: back.clone() })?;
-    judge.check(&WalkCase { walk: Walk::Ones, a: ends.clone(), b: mixed.clone(), back })?;
-    judge.check(&WalkCase { walk: Walk::Zeroes, a: ends.clone(), b: mixed.clone(), back: vec![false; 4] })?;
+    let steps: Vec<Step> = (0..6).map(|_| Step::at(random.yes())).collect();
+    judge.check(&WalkCase { walk, a: mixed.clone(), b: ends.clone(), steps: steps.clone() })?;
+    judge.check(&WalkCase { walk: Walk::Ones, a: ends.clone(), b: mixed.clone(), steps })?;
+    judge.check(&WalkCase { walk: Walk::Zeroes, a: ends.clone(), b: mixed.clone(), steps: vec![Step::Front; 4] })?;
     for part in
         [Record { low: n.saturating_sub(1), high: n }, Record { low: n, high: n }, Record { low: 0, high: n + 1 }, Record { low: n + 1, high: n }]
     {
@@ -112,6 +113,47 @@ fn last_steps(judge: &mut Judge, random: &mut Prng, n: usize, mixed: &Lent, ends
         judge.check(&Case { call, a: ends.clone(), b: mixed.clone(), out: Vec::new() })?;
     }
     Ok(())
+}
+
+/// Many steps in one call: buffers about a word's size from records at the edges, and whole walks in buffers of one size with steps between them.
+fn many(judge: &mut Judge, random: &mut Prng, n: usize, sets: [&Lent; 3], all: bool) -> Result<(), Difference> {
+    let edge = n.saturating_sub(1) / 64 * 64;
+    let walks = if all { Walk::ALL.to_vec() } else { vec![random.one_of(&Walk::ALL)] };
+    for walk in walks {
+        let sizes = if all { BUFFERS.to_vec() } else { vec![random.one_of(&BUFFERS)] };
+        for size in sizes {
+            let (a, b) = (random.one_of(&sets), random.one_of(&sets));
+            let low = random.one_of(&[0, edge.saturating_sub(65), edge.saturating_sub(64), edge.saturating_sub(1), edge, n]);
+            let one = Record { low, high: n };
+            let two = Record { low: n - low, high: n };
+            let out = (0..size).map(|_| random.word()).collect();
+            judge.check(&Case { call: Call::NextMany { walk, one, two }, a: a.clone(), b: b.clone(), out })?;
+        }
+        let count = listed(walk, sets[0], sets[1]);
+        let size = random.one_of(&[64, 65, 256, count + 1]);
+        let mut steps = Vec::new();
+        for _ in 0..=count / size {
+            steps.extend([Step::Many(size), Step::Many(1), Step::at(walk != Walk::Zeroes && random.yes())]);
+        }
+        steps.extend([Step::Front, Step::Many(3)]);
+        // The second set has few positions of its own: the model looks through a first part that is over at each of them.
+        judge.check(&WalkCase { walk, a: sets[0].clone(), b: sets[1].clone(), steps })?;
+    }
+    Ok(())
+}
+
+/// How many positions a walk over two sets of one length has.
+fn listed(walk: Walk, a: &Lent, b: &Lent) -> usize {
+    let words = a.words.iter().zip(&b.words).take(words_of(a.length));
+    let count = |word: fn(u64, u64) -> u64| words.map(|(x, y)| word(*x, *y).count_ones() as usize).sum::<usize>();
+    match walk {
+        Walk::Ones => count(|x, _| x),
+        Walk::Zeroes => a.length - count(|x, _| x),
+        Walk::Intersection => count(|x, y| x & y),
+        Walk::Difference => count(|x, y| x & !y),
+        Walk::Union => count(|x, y| x | y),
+        Walk::SymmetricDifference => count(|x, y| x ^ y),
+    }
 }
 
 /// One word and the masks of ranges.

@@ -1,7 +1,7 @@
 //! Every set of 0 to 6 bits, at every position and range, every pair of such sets, every mix of steps, and every short history; and the same sets
 //! across a word's edge, from position 61 on.
 
-use crate::cases::{Call, Case, Edit, History, Lent, Record, Walk, WalkCase};
+use crate::cases::{Call, Case, Edit, History, Lent, Record, Step, Walk, WalkCase};
 use crate::inputs::{at_position, one, over_range, set, to_length, CALLERS, OF_TWO, PLAIN};
 use crate::judge::{Difference, Judge};
 
@@ -85,6 +85,10 @@ fn records(judge: &mut Judge, set: &Lent, from: usize) -> Result<(), Difference>
             for call in steps.into_iter().chain(walker) {
                 judge.check(&one(call, lent(set, 2)))?;
             }
+            for walk in [Walk::Ones, Walk::Zeroes] {
+                let call = Call::NextMany { walk, one: part, two: Record::EMPTY };
+                buffers(judge, call, &lent(set, 2), &Lent::EMPTY, &[0, 1, 2, 5, 70])?;
+            }
         }
     }
     Ok(())
@@ -103,24 +107,51 @@ fn pair_records(judge: &mut Judge, a: &Lent, b: &Lent, from: usize) -> Result<()
                     let call = Call::Step { walk, back, one, two };
                     judge.check(&Case { call, a: lent(a, 2), b: lent(b, 3), out: Vec::new() })?;
                 }
+                buffers(judge, Call::NextMany { walk, one, two }, &lent(a, 2), &lent(b, 3), &[0, 1, 2, 5])?;
             }
         }
     }
     Ok(())
 }
 
+/// The call with a buffer of each size.
+fn buffers(judge: &mut Judge, call: Call, a: &Lent, b: &Lent, sizes: &[usize]) -> Result<(), Difference> {
+    sizes.iter().try_for_each(|size| judge.check(&Case { call, a: a.clone(), b: b.clone(), out: vec![CALLERS; *size] }))
+}
+
 /// Every mix of n steps, as the bits of a number.
-fn mix(bits: usize, n: usize) -> Vec<bool> {
-    (0..n).map(|k| bits >> k & 1 == 1).collect()
+fn mix(bits: usize, n: usize) -> Vec<Step> {
+    (0..n).map(|k| Step::at(bits >> k & 1 == 1)).collect()
+}
+
+/// Every mix of n steps at both ends and of one, two or three front steps in one call; then all that is left, and a step past the end.
+fn many_mixes(n: usize) -> impl Iterator<Item = Vec<Step>> {
+    let choices = [Step::Front, Step::Back, Step::Many(1), Step::Many(2), Step::Many(3)];
+    (0..choices.len().pow(n as u32)).map(move |mix| {
+        let mut rest = mix;
+        let mut steps = Vec::with_capacity(n + 3);
+        for _ in 0..n {
+            steps.push(choices[rest % choices.len()]);
+            rest /= choices.len();
+        }
+        steps.extend([Step::Many(0), Step::Many(9), Step::Front]);
+        steps
+    })
 }
 
 /// Every mix of steps of `ones`, to one step past its end, and all of `zeroes`.
 fn ones(judge: &mut Judge, set: &Lent) -> Result<(), Difference> {
     let n = set.words.iter().map(|word| word.count_ones() as usize).sum::<usize>() + 2;
+    let mut walk = |walk, steps| judge.check(&WalkCase { walk, a: lent(set, 2), b: Lent::EMPTY, steps });
     for bits in 0..1 << n {
-        judge.check(&WalkCase { walk: Walk::Ones, a: lent(set, 2), b: Lent::EMPTY, back: mix(bits, n) })?;
+        walk(Walk::Ones, mix(bits, n))?;
     }
-    judge.check(&WalkCase { walk: Walk::Zeroes, a: lent(set, 2), b: Lent::EMPTY, back: vec![false; set.length + 2] })
+    many_mixes(3).try_for_each(|steps| walk(Walk::Ones, steps))?;
+    walk(Walk::Zeroes, vec![Step::Front; set.length + 2])?;
+    for size in [1, 2, 3, 64, 70] {
+        walk(Walk::Zeroes, vec![Step::Many(size), Step::Front, Step::Many(size), Step::Many(70)])?;
+    }
+    Ok(())
 }
 
 fn pair(judge: &mut Judge, a: &Lent, b: &Lent) -> Result<(), Difference> {
@@ -141,7 +172,11 @@ fn walks(judge: &mut Judge, a: &Lent, b: &Lent, mixed: bool) -> Result<(), Diffe
         let n = list.count_ones() as usize + 1;
         let mixes: Vec<usize> = if mixed { (0..1 << n).collect() } else { vec![0, (1 << n) - 1, 0x5555, 0xAAAA, 0x6666, 0x1111] };
         for bits in mixes {
-            judge.check(&WalkCase { walk, a: lent(a, 2), b: lent(b, 3), back: mix(bits, n) })?;
+            judge.check(&WalkCase { walk, a: lent(a, 2), b: lent(b, 3), steps: mix(bits, n) })?;
+        }
+        let mixes = if mixed { many_mixes(2).collect() } else { vec![vec![Step::Many(2), Step::Back, Step::Many(9), Step::Front]] };
+        for steps in mixes {
+            judge.check(&WalkCase { walk, a: lent(a, 2), b: lent(b, 3), steps })?;
         }
     }
     Ok(())

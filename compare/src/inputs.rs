@@ -12,6 +12,9 @@ pub const CALLERS: u64 = 0xC3A5_9669_5AC3_3C69;
 /// Numbers that no set has room for.
 pub const HUGE: [usize; 7] = [MOST + 1, MOST + 64, 1 << 32, usize::MAX / 2 + 1, usize::MAX - 63, usize::MAX - 1, usize::MAX];
 
+/// Sizes of buffers for many positions, about those of a word.
+pub const BUFFERS: [usize; 8] = [0, 1, 2, 63, 64, 65, 130, 200];
+
 pub fn words_of(length: usize) -> usize {
     length.div_ceil(64)
 }

@@ -78,7 +78,7 @@ impl Input for WalkCase {
     }
 
     fn answers(&self) -> u64 {
-        self.back.len() as u64
+        WalkCase::answers(self) as u64
     }
 
     fn smaller(&self) -> Vec<Self> {
@@ -144,8 +144,8 @@ pub struct Judge {
     pub tally: Tally,
 }
 
-/// The pairs of up to four engines, by their places; the first and the last are two forms of the same one.
-const PAIRS: [(usize, usize); 5] = [(0, 1), (0, 2), (1, 2), (1, 3), (2, 3)];
+/// The pairs of up to five engines, by their places; the first and the last two are forms of the same one.
+const PAIRS: [(usize, usize); 6] = [(0, 1), (0, 2), (1, 2), (1, 3), (2, 3), (0, 4)];
 
 /// The pairs of which both have answered: the place in `PAIRS`, and the two answers.
 fn answered<S>(seen: &[Option<S>]) -> impl Iterator<Item = (usize, &S, &S)> {

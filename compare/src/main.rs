@@ -26,6 +26,8 @@ mod reference;
 mod sample;
 mod show;
 mod shrink;
+#[cfg(feature = "archive")]
+mod stepped;
 
 use judge::{Difference, Judge};
 use prng::Prng;
@@ -102,6 +104,8 @@ fn engines() -> Vec<Box<dyn cases::Engine>> {
         Box::new(model::Model),
         #[cfg(feature = "archive")]
         Box::new(bindings::Bindings),
+        #[cfg(feature = "archive")]
+        Box::new(stepped::Stepped),
     ]
 }
 

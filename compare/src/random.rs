@@ -1,8 +1,9 @@
 //! Random calls and walks, with whole sets and with damaged ones.
 
-use crate::cases::{Call, Case, Lent, Record, Walk, WalkCase};
+use crate::cases::{Call, Case, Lent, Record, Step, Walk, WalkCase};
 use crate::inputs::{
-    at_position, over_range, random_edit, random_length, random_number, random_range, random_set, to_length, trim, words_of, HUGE, OF_TWO, PLAIN,
+    at_position, over_range, random_edit, random_length, random_number, random_range, random_set, to_length, trim, words_of, BUFFERS, HUGE, OF_TWO,
+    PLAIN,
 };
 use crate::judge::{Difference, Judge};
 use crate::prng::Prng;
@@ -48,7 +49,10 @@ fn whole(random: &mut Prng) -> Case {
     if call.reads_second() && random.yes() {
         a.words.resize(words_of(a.length.max(b.length)).max(a.words.len()), 7);
     }
-    let room = (words_of(length.max(other)) + random.below(2)).saturating_sub(usize::from(random.once_in(8)));
+    let room = match call {
+        Call::NextMany { .. } => random.one_of(&BUFFERS) + random.few(2, 100),
+        _ => (words_of(length.max(other)) + random.below(2)).saturating_sub(usize::from(random.once_in(8))),
+    };
     let out = (0..room).map(|_| random.word()).collect();
     Case { call, a, b, out }
 }
@@ -73,7 +77,11 @@ fn random_call(random: &mut Prng, length: usize, other: usize) -> Call {
         10 => {
             let walk = random.one_of(&Walk::ALL);
             let (one, two) = (random_record(random, length), random_record(random, other));
-            Call::Step { walk, back: walk != Walk::Zeroes && random.yes(), one, two }
+            if random.yes() {
+                Call::NextMany { walk, one, two }
+            } else {
+                Call::Step { walk, back: walk != Walk::Zeroes && random.yes(), one, two }
+            }
         }
         _ => Call::WalkerStep { back: random.yes(), part: random_record(random, length) },
     }
@@ -123,8 +131,19 @@ fn walk(random: &mut Prng) -> WalkCase {
     let walk = random.one_of(&Walk::ALL);
     let n = 1 + random.few(24, 200);
     let lean = random.below(4);
-    let back = (0..n).map(|_| walk != Walk::Zeroes && random.below(4) < lean).collect();
-    let mut case = WalkCase { walk, a, b, back };
+    let many = if random.yes() { 0 } else { random.below(8) };
+    let mut left = 400;
+    let mut steps: Vec<Step> = Vec::with_capacity(n);
+    for _ in 0..n {
+        if random.below(8) < many && left > 0 {
+            let size = random.few(12, 70).min(left);
+            left -= size;
+            steps.push(Step::Many(size));
+        } else {
+            steps.push(Step::at(walk != Walk::Zeroes && random.below(4) < lean));
+        }
+    }
+    let mut case = WalkCase { walk, a, b, steps };
     if random.once_in(16) {
         damage_set(random, &mut case.a);
         damage_set(random, &mut case.b);

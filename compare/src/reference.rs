@@ -2,8 +2,8 @@
 //!
 //! It can be asked what it has a meaning for: sets that pass questions 1 to 3, new lengths that pass 6 and 7, walks from their start.
 
-use crate::by_name::{ask_by_name, steps};
-use crate::cases::{accepted, Answer, Call, Case, Edit, Engine, History, Lent, Outcome, Ran, Walk, WalkCase, Walked, NONE};
+use crate::by_name::{ask_by_name, front_steps, steps};
+use crate::cases::{accepted, Answer, Call, Case, Edit, Engine, History, Lent, Outcome, Ran, Step, Walk, WalkCase, Walked, NONE};
 use crate::inputs::{words_of, MOST};
 use fixedbitset::{FixedBitSet, Ones};
 use std::cell::Cell;
@@ -203,7 +203,7 @@ impl Engine for Reference {
     fn walk(&self, case: &WalkCase) -> Option<Walked> {
         let a = load(&case.a)?;
         let b = if case.walk.of_two_sets() { load(&case.b)? } else { FixedBitSet::new() };
-        let answers = walk_sets(case.walk, &a, &b, &case.back)?;
+        let answers = walk_sets(case.walk, &a, &b, &case.steps)?;
         Some(Walked { number: 0, answers, records: None })
     }
 
@@ -229,8 +229,8 @@ impl Engine for Reference {
         }
         store(&a, &mut history.a_words);
         store(&b, &mut history.b_words);
-        let back: Vec<bool> = history.steps.iter().map(|step| *step != 0).collect();
-        let answers = walk_sets(walk, &a, &b, &back)?;
+        let steps: Vec<Step> = history.steps.iter().map(|step| Step::at(*step != 0)).collect();
+        let answers = walk_sets(walk, &a, &b, &steps)?;
         for (word, answer) in history.out.iter_mut().zip(answers) {
             *word = answer.map_or(NONE, |p| p as u64);
         }

@@ -32,8 +32,8 @@ pub fn case(case: &Case) -> String {
 }
 
 pub fn walk(case: &WalkCase) -> String {
-    let ends: Vec<&str> = case.back.iter().map(|back| if *back { "back" } else { "front" }).collect();
-    format!("{:?}, steps {}\n  {}\n  {}", case.walk, ends.join(" "), lent("a", &case.a), lent("b", &case.b))
+    let steps: Vec<String> = case.steps.iter().map(|step| format!("{step:?}").to_lowercase()).collect();
+    format!("{:?}, steps {}\n  {}\n  {}", case.walk, steps.join(" "), lent("a", &case.a), lent("b", &case.b))
 }
 
 pub fn history(history: &History) -> String {

@@ -1,6 +1,6 @@
 //! Smaller inputs, for the smallest that still shows a difference: shorter lengths first, then fewer calls and steps, then simpler words and numbers.
 
-use crate::cases::{Call, Case, Edit, History, Lent, Record, WalkCase};
+use crate::cases::{Call, Case, Edit, History, Lent, Record, Step, WalkCase};
 use crate::inputs::trim;
 
 /// Numbers below n, the boldest first.
@@ -100,6 +100,7 @@ fn with_numbers(call: Call, f: &mut dyn FnMut(usize) -> usize) -> Call {
         Call::CountOnes(start, end) => Call::CountOnes(f(start), f(end)),
         Call::CountZeroes(start, end) => Call::CountZeroes(f(start), f(end)),
         Call::Step { walk, back, one, two } => Call::Step { walk, back, one: record(one, f), two: record(two, f) },
+        Call::NextMany { walk, one, two } => Call::NextMany { walk, one: record(one, f), two: record(two, f) },
         Call::WalkerStep { back, part } => Call::WalkerStep { back, part: record(part, f) },
         Call::WordCountOnes(word) => Call::WordCountOnes(f(word as usize) as u64),
         Call::WordLeadingZeros(word) => Call::WordLeadingZeros(f(word as usize) as u64),
@@ -158,9 +159,18 @@ pub fn walk(case: &WalkCase) -> Vec<WalkCase> {
     for (a, b) in pairs(&case.a, &case.b) {
         smaller.push(WalkCase { a, b, ..case.clone() });
     }
-    for back in shorter(&case.back, 1) {
-        if !back.is_empty() {
-            smaller.push(WalkCase { back, ..case.clone() });
+    for steps in shorter(&case.steps, 1) {
+        if !steps.is_empty() {
+            smaller.push(WalkCase { steps, ..case.clone() });
+        }
+    }
+    for (k, step) in case.steps.iter().enumerate() {
+        if let Step::Many(size) = step {
+            for less in below(*size) {
+                let mut steps = case.steps.clone();
+                steps[k] = Step::Many(less);
+                smaller.push(WalkCase { steps, ..case.clone() });
+            }
         }
     }
     smaller.retain(|candidate| candidate != case);

@@ -4,6 +4,8 @@
 //! answered no. Every function asks its questions itself, so the only duties of a caller are those of the pointers: each is valid for as many
 //! words as the number beside it, and the words of a slice that is written overlap no other slice of the call.
 
+pub use crate::stand_in::*;
+
 /// A set: its length in bits. Its words are lent beside it.
 #[repr(C)]
 #[derive(Clone, Copy, Debug, PartialEq, Eq)]

@@ -37,6 +37,7 @@ pub mod words;
 mod ranges;
 mod refusal;
 mod set;
+mod stand_in;
 mod view;
 mod walks;
 

@@ -14,6 +14,7 @@ pub fn call(case: &mut Case) -> Outcome {
         Call::BitXor => third(case, false, |x, y| x != y),
         Call::FirstPart => accepted(Answer::Record(Record { low: 0, high: case.a.length })),
         Call::Step { walk, back, one, two } => walks::step(walk, &case.a, &case.b, back, one, two),
+        Call::NextMany { walk, one, two } => walks::next_many(walk, &case.a, &case.b, one, two, &mut case.out),
         Call::WalkerStep { back, part } => walks::step(Walk::Ones, &case.a, &case.b, back, part, Record::EMPTY),
         Call::WordCountOnes(word) => accepted(Answer::Count(words::count_ones(word))),
         Call::WordLeadingZeros(word) => accepted(Answer::Count(words::leading_zeros(word))),
