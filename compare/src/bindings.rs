@@ -1,9 +1,11 @@
 //! The engine's archive through the safe types of the bindings. They cannot hold a damaged set, so they are asked whole ones.
 
-use crate::by_name::{ask_by_name, front_steps, steps};
+use crate::archive::of_buffer;
+use crate::by_name::ask_by_name;
 use crate::cases::{accepted, Answer, Call, Case, Edit, Engine, History, Lent, Outcome, Ran, Step, Walk, WalkCase, Walked};
+use crate::inputs::CALLERS;
 use lent_bit_sets::history::{run_history, Walk as HistoryWalk};
-use lent_bit_sets::{masks, words, FixedBitSet, Refusal, View};
+use lent_bit_sets::{masks, words, Difference, FixedBitSet, Intersection, Ones, Refusal, SymmetricDifference, Union, View, Zeroes};
 use std::cmp::Ordering;
 
 pub struct Bindings;
@@ -23,6 +25,55 @@ fn outcome<T: Default>(result: Result<T, Refusal>, answer: impl Fn(T) -> Answer)
 
 fn ranged<T: Default>(ask: impl FnOnce() -> Result<T, Refusal>, answer: fn(T) -> Answer) -> Outcome {
     outcome(ask(), answer)
+}
+
+/// The iterators, which take many steps in one call.
+trait NextMany: Iterator<Item = usize> {
+    fn next_many(&mut self, out: &mut [u64]) -> usize;
+}
+
+macro_rules! iterators {
+    ($($name:ident)*) => {
+        $(impl NextMany for $name<'_> {
+            fn next_many(&mut self, out: &mut [u64]) -> usize {
+                $name::next_many(self, out)
+            }
+        })*
+    };
+}
+
+iterators! { Ones Zeroes Intersection Difference Union SymmetricDifference }
+
+fn next_many(walk: &mut impl NextMany, size: usize) -> Vec<Option<usize>> {
+    let mut out = vec![CALLERS; size];
+    let count = walk.next_many(&mut out);
+    of_buffer(&out, count).collect()
+}
+
+/// The position of each step.
+fn steps(mut walk: impl NextMany + DoubleEndedIterator, steps: &[Step]) -> Vec<Option<usize>> {
+    let mut answers = Vec::new();
+    for step in steps {
+        match step {
+            Step::Front => answers.push(walk.next()),
+            Step::Back => answers.push(walk.next_back()),
+            Step::Many(size) => answers.extend(next_many(&mut walk, *size)),
+        }
+    }
+    answers
+}
+
+/// The same of a walk that has no steps at the back; none where there is one.
+fn front_steps(mut walk: impl NextMany, steps: &[Step]) -> Option<Vec<Option<usize>>> {
+    let mut answers = Vec::new();
+    for step in steps {
+        match step {
+            Step::Front => answers.push(walk.next()),
+            Step::Back => return None,
+            Step::Many(size) => answers.extend(next_many(&mut walk, *size)),
+        }
+    }
+    Some(answers)
 }
 
 ask_by_name!(View<'_>);

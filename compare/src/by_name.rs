@@ -23,7 +23,8 @@ pub fn front_steps(mut walk: impl Iterator<Item = usize>, steps: &[Step]) -> Opt
     Some((0..answers).map(|_| walk.next()).collect())
 }
 
-/// Functions that ask a `$set`, which can be copied. `ranged`, of the place that uses this, gives the outcome of a call that can refuse its range.
+/// Functions that ask a `$set`, which can be copied. Of the place that uses this, `ranged` gives the outcome of a call that can refuse its range, and `steps` and
+/// `front_steps` the answers of a walk.
 macro_rules! ask_by_name {
     ($set:ty) => {
         /// Views, tests and counts of one set.

@@ -80,11 +80,16 @@ impl Error for Refusal {}
 
 /// The answer of a call, or its refusal.
 pub(crate) fn accepted<T>(number: u64, answer: T) -> Result<T, Refusal> {
-    match Refusal::from_number(number) {
-        None if number == 0 => Ok(answer),
-        None => panic!("the engine gave the number {number}, which names no refusal"),
-        Some(refusal) => Err(refusal),
+    if number == 0 {
+        Ok(answer)
+    } else {
+        Err(refused(number))
     }
+}
+
+#[cold]
+fn refused(number: u64) -> Refusal {
+    Refusal::from_number(number).unwrap_or_else(|| panic!("the engine gave the number {number}, which names no refusal"))
 }
 
 /// Sets that passed questions 1 to 3 leave some calls nothing to refuse.

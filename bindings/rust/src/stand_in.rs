@@ -1,4 +1,5 @@
 //! The entry points that take many front steps in one call, by steps one after the other, until the archive has them.
+#![allow(clippy::missing_safety_doc)]
 
 use crate::ffi::*;
 
