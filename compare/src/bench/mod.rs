@@ -79,8 +79,15 @@ fn all(bench: &mut Bench, seed: u64) {
     }
     for n in DENSITIES {
         let (a, b) = pair(&mut random, MOST, n);
+        walks::next_many(bench, &format!("1/{n}"), &a, &b);
+    }
+    let (a, b) = exhausted(MOST);
+    walks::next_many_of_union(bench, "A = {0}, B = all", &a, &b);
+    for n in DENSITIES {
+        let (a, b) = pair(&mut random, MOST, n);
         walks::iterators(bench, &format!("1/{n}"), &a, &b);
     }
+    walks::iterators_of_union(bench, "A = {0}, B = all", &a, &b);
 }
 
 /// A first part that is over after its first position, and a second of nearly all.

@@ -3,6 +3,7 @@
 use super::again;
 use super::sets::Twice;
 use super::Bench;
+use crate::inputs::MOST;
 use lent_bit_sets::ffi::*;
 use std::hint::black_box;
 
@@ -127,6 +128,96 @@ pub fn steps_of_union(bench: &mut Bench, name: &str, a: &Twice, b: &Twice, most:
         rows.row("step of union", both, |(p, q)| fbs_union_next(s, w, n, t, v, m, p, q), || a.rust.union(&b.rust));
         rows.row("back step of union", both, |(p, q)| fbs_union_next_back(s, w, n, t, v, m, p, q), || a.rust.union(&b.rust).rev());
     }
+}
+
+/// Many steps as the engine gives them.
+trait Many {
+    type Records: Copy;
+    fn count(&self) -> usize;
+    fn records(&self) -> Self::Records;
+}
+
+impl Many for FbsNextMany {
+    type Records = FbsPart;
+
+    fn count(&self) -> usize {
+        self.count
+    }
+
+    fn records(&self) -> FbsPart {
+        self.part
+    }
+}
+
+impl Many for FbsNextManyPair {
+    type Records = (FbsPart, FbsPart);
+
+    fn count(&self) -> usize {
+        self.count
+    }
+
+    fn records(&self) -> (FbsPart, FbsPart) {
+        (self.one, self.two)
+    }
+}
+
+/// Whole walks by calls for as many positions as a buffer has words, beside the Rust's iterator into a vector that has room.
+fn many<M: Many, I: Iterator<Item = usize>>(
+    bench: &mut Bench,
+    name: &str,
+    length: usize,
+    first: M::Records,
+    next_many: impl Fn(M::Records, *mut u64, usize) -> M,
+    walk: impl Fn() -> I,
+) {
+    let per = walk().count().max(1);
+    for size in [256, MOST] {
+        let mut buffer = vec![0_u64; size];
+        let mut vector: Vec<usize> = Vec::with_capacity(length);
+        let ours = || {
+            let mut records = first;
+            loop {
+                let many = next_many(records, buffer.as_mut_ptr(), size);
+                black_box(&buffer);
+                records = many.records();
+                if many.count() < size {
+                    break;
+                }
+            }
+        };
+        let rust = || {
+            vector.clear();
+            vector.extend(walk());
+            black_box(&vector);
+        };
+        bench.row(&format!("next_many {size}, {name}"), length, per, ours, rust);
+    }
+}
+
+/// Many steps in one call. The Rust's side is `collect` into a vector that has room.
+pub fn next_many(bench: &mut Bench, name: &str, a: &Twice, b: &Twice) {
+    let complement = Twice::new(a.length, |p| !a.rust.contains(p));
+    let ((s, w, n), (t, v, m), (c, u, k)) = (a.raw(), b.raw(), complement.raw());
+    let (first, length) = (a.first(), a.length);
+    // SAFETY: the pointers and the numbers of words are those of vectors that live as long, and nothing else reads or writes the buffer meanwhile.
+    unsafe {
+        many(bench, &format!("ones, {name}"), length, first, |p, o, l| fbs_ones_next_many(s, w, n, p, o, l), || a.rust.ones());
+        many(bench, &format!("zeroes, {name}"), length, first, |p, o, l| fbs_zeroes_next_many(c, u, k, p, o, l), || complement.rust.zeroes());
+        let ours = |p, o, l| fbs_intersection_next_many(s, w, n, t, v, m, p, o, l);
+        many(bench, &format!("intersection, {name}"), length, first, ours, || a.rust.intersection(&b.rust));
+        let ours = |p, o, l| fbs_difference_next_many(s, w, n, t, v, m, p, o, l);
+        many(bench, &format!("difference, {name}"), length, first, ours, || a.rust.difference(&b.rust));
+        next_many_of_union(bench, name, a, b);
+        let ours = |(p, q), o, l| fbs_symmetric_difference_next_many(s, w, n, t, v, m, p, q, o, l);
+        many(bench, &format!("symmetric_difference, {name}"), length, (first, b.first()), ours, || a.rust.symmetric_difference(&b.rust));
+    }
+}
+
+pub fn next_many_of_union(bench: &mut Bench, name: &str, a: &Twice, b: &Twice) {
+    let ((s, w, n), (t, v, m)) = (a.raw(), b.raw());
+    // SAFETY: as above.
+    let ours = |(p, q), o, l| unsafe { fbs_union_next_many(s, w, n, t, v, m, p, q, o, l) };
+    many(bench, &format!("union, {name}"), a.length, (a.first(), b.first()), ours, || a.rust.union(&b.rust));
 }
 
 /// The sum of a walk by a caller's loop.
