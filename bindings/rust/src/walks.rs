@@ -8,7 +8,7 @@ use std::fmt;
 use std::iter::FusedIterator;
 
 /// How many positions a call gives for the front, and how many the first call of a walk: often only its first position is wanted.
-const BUFFER: usize = 256;
+const BUFFER: usize = 128;
 const FIRST: usize = 8;
 
 fn first(view: View<'_>) -> FbsPart {
@@ -146,11 +146,18 @@ impl<'w> TwoParts<'w> {
         TwoParts { a, b, one: first(a), two: first(b) }
     }
 
+    /// A step at the back.
     fn step(&mut self, step: StepOfParts) -> Option<usize> {
         let ((a, words, size), (b, others, other_size)) = (self.a.raw(), self.b.raw());
         // SAFETY: the pointers and the numbers of words are those of slices.
         let stepped = unsafe { step(a, words, size, b, others, other_size, self.one, self.two) };
-        (self.one, self.two) = (stepped.one, stepped.two);
+        if stepped.one != self.one {
+            // The second part is over: its record is closed, so that no later call looks through it again.
+            self.two.high = self.two.low;
+        } else {
+            self.two = stepped.two;
+        }
+        self.one = stepped.one;
         unrefused(stepped.number, stepped.found.then_some(stepped.at))
     }
 
@@ -158,7 +165,12 @@ impl<'w> TwoParts<'w> {
         let ((a, words, size), (b, others, other_size)) = (self.a.raw(), self.b.raw());
         // SAFETY: the pointers and the numbers of words are those of slices, and the one that is written is borrowed alone.
         let many = unsafe { many(a, words, size, b, others, other_size, self.one, self.two, out.as_mut_ptr(), out.len()) };
-        (self.one, self.two) = (many.one, many.two);
+        self.one = many.one;
+        if many.two != self.two {
+            // The first part is over.
+            self.one.low = self.one.high;
+        }
+        self.two = many.two;
         unrefused(many.number, many.count)
     }
 }
@@ -250,11 +262,12 @@ macro_rules! walk {
                 }
             }
 
-            // A whole buffer first: a walk that it holds needs no count for `size_hint`.
+            // A whole buffer first, since a walk that it holds needs no count; and by a range, whose length a vector relies on.
             #[inline]
             fn collect<B: FromIterator<usize>>(mut self) -> B {
                 self.fill(BUFFER);
-                B::from_iter(self)
+                let left = self.left();
+                B::from_iter((0..left).map(|_| self.next().expect("as many positions as are counted")))
             }
         }
 
