@@ -42,7 +42,7 @@ pub fn run(seed: u64) {
     let counts = counted::counts(seed);
     println!("Least time of many runs in nanoseconds, and instructions; each of one call, or of one position of a walk (seed {seed}).");
     if counts.is_empty() {
-        println!("No instructions: valgrind is not at hand.");
+        println!("No instructions: valgrind is not at hand, or could not run this program.");
     }
     println!(
         "| {:<44} | {:>6} | {:>9} | {:>9} | {:>8} | {:>9} | {:>9} | {:>8} |",
