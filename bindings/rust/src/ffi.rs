@@ -4,8 +4,6 @@
 //! answered no. Every function asks its questions itself, so the only duties of a caller are those of the pointers: each is valid for as many
 //! words as the number beside it, and the words of a slice that is written overlap no other slice of the call.
 
-pub use crate::stand_in::*;
-
 /// A set: its length in bits. Its words are lent beside it.
 #[repr(C)]
 #[derive(Clone, Copy, Debug, PartialEq, Eq)]
@@ -124,6 +122,25 @@ pub struct FbsSteppedPair {
     pub number: u64,
     pub found: bool,
     pub at: usize,
+    pub one: FbsPart,
+    pub two: FbsPart,
+}
+
+/// Many front steps of a walk of one part: how many positions are written.
+#[repr(C)]
+#[derive(Clone, Copy, Debug, PartialEq, Eq)]
+pub struct FbsNextMany {
+    pub number: u64,
+    pub count: usize,
+    pub part: FbsPart,
+}
+
+/// Many front steps of a walk of two parts.
+#[repr(C)]
+#[derive(Clone, Copy, Debug, PartialEq, Eq)]
+pub struct FbsNextManyPair {
+    pub number: u64,
+    pub count: usize,
     pub one: FbsPart,
     pub two: FbsPart,
 }
@@ -308,6 +325,55 @@ extern "C" {
         one: FbsPart,
         two: FbsPart,
     ) -> FbsSteppedPair;
+    // many front steps in one call: their positions in the first words of out, as many as it has or as the walk has left
+    pub fn fbs_ones_next_many(set: FbsSet, words: *const u64, size: usize, part: FbsPart, out: *mut u64, out_size: usize) -> FbsNextMany;
+    pub fn fbs_zeroes_next_many(set: FbsSet, words: *const u64, size: usize, part: FbsPart, out: *mut u64, out_size: usize) -> FbsNextMany;
+    pub fn fbs_intersection_next_many(
+        a: FbsSet,
+        words: *const u64,
+        size: usize,
+        b: FbsSet,
+        other: *const u64,
+        other_size: usize,
+        part: FbsPart,
+        out: *mut u64,
+        out_size: usize,
+    ) -> FbsNextMany;
+    pub fn fbs_difference_next_many(
+        a: FbsSet,
+        words: *const u64,
+        size: usize,
+        b: FbsSet,
+        other: *const u64,
+        other_size: usize,
+        part: FbsPart,
+        out: *mut u64,
+        out_size: usize,
+    ) -> FbsNextMany;
+    pub fn fbs_union_next_many(
+        a: FbsSet,
+        words: *const u64,
+        size: usize,
+        b: FbsSet,
+        other: *const u64,
+        other_size: usize,
+        one: FbsPart,
+        two: FbsPart,
+        out: *mut u64,
+        out_size: usize,
+    ) -> FbsNextManyPair;
+    pub fn fbs_symmetric_difference_next_many(
+        a: FbsSet,
+        words: *const u64,
+        size: usize,
+        b: FbsSet,
+        other: *const u64,
+        other_size: usize,
+        one: FbsPart,
+        two: FbsPart,
+        out: *mut u64,
+        out_size: usize,
+    ) -> FbsNextManyPair;
     // a step of the walker that keeps the set's words: back is the end
     pub fn fbs_walker_step(set: FbsSet, words: *const u64, size: usize, part: FbsPart, back: bool) -> FbsStepped;
     // a whole history: two fresh sets, calls of five numbers each, a walk (0 ones, 1 intersection, 2 difference, 3 union, 4 symmetric difference; any other is refused with 99), steps (0 front, else back), an answer for each step in out (the position, or 2^64 - 1 for none), and the walk's count

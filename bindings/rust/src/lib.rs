@@ -37,7 +37,6 @@ pub mod words;
 mod ranges;
 mod refusal;
 mod set;
-mod stand_in;
 mod view;
 mod walks;
 
