@@ -79,6 +79,7 @@ impl fmt::Display for Refusal {
 impl Error for Refusal {}
 
 /// The answer of a call, or its refusal.
+#[inline]
 pub(crate) fn accepted<T>(number: u64, answer: T) -> Result<T, Refusal> {
     if number == 0 {
         Ok(answer)
@@ -96,6 +97,7 @@ fn refused(number: u64) -> Refusal {
 pub(crate) const UNREFUSED: &str = "a call on whole sets was refused";
 
 /// The answer of such a call.
+#[inline]
 pub(crate) fn unrefused<T>(number: u64, answer: T) -> T {
     accepted(number, answer).expect(UNREFUSED)
 }

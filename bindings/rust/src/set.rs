@@ -91,6 +91,7 @@ impl<'w> FixedBitSet<'w> {
     ///
     /// # Errors
     /// [`Refusal::Position`] where it is not below the length.
+    #[inline]
     pub fn insert(&mut self, bit: usize) -> Result<(), Refusal> {
         self.edited(|set, words, size| unsafe { ffi::fbs_insert(set, words, size, bit) })
     }
@@ -99,6 +100,7 @@ impl<'w> FixedBitSet<'w> {
     ///
     /// # Errors
     /// [`Refusal::Position`] where it is not below the length.
+    #[inline]
     pub fn remove(&mut self, bit: usize) -> Result<(), Refusal> {
         self.edited(|set, words, size| unsafe { ffi::fbs_remove(set, words, size, bit) })
     }
@@ -115,6 +117,7 @@ impl<'w> FixedBitSet<'w> {
     /// assert_eq!((set.put(3), set.put(3), set.put(5)), (Ok(false), Ok(true), Err(Refusal::Position)));
     /// # Ok::<(), Refusal>(())
     /// ```
+    #[inline]
     pub fn put(&mut self, bit: usize) -> Result<bool, Refusal> {
         // SAFETY: the pointer and the number of words are those of a slice that is borrowed alone.
         let replaced = unsafe { ffi::fbs_put(self.set, self.words.as_mut_ptr(), self.words.len(), bit) };
@@ -126,6 +129,7 @@ impl<'w> FixedBitSet<'w> {
     ///
     /// # Errors
     /// [`Refusal::Position`] where it is not below the length.
+    #[inline]
     pub fn toggle(&mut self, bit: usize) -> Result<(), Refusal> {
         self.edited(|set, words, size| unsafe { ffi::fbs_toggle(set, words, size, bit) })
     }
@@ -134,6 +138,7 @@ impl<'w> FixedBitSet<'w> {
     ///
     /// # Errors
     /// [`Refusal::Position`] where it is not below the length.
+    #[inline]
     pub fn set(&mut self, bit: usize, enabled: bool) -> Result<(), Refusal> {
         self.edited(|set, words, size| unsafe { ffi::fbs_set(set, words, size, bit, enabled) })
     }
@@ -142,6 +147,7 @@ impl<'w> FixedBitSet<'w> {
     ///
     /// # Errors
     /// [`Refusal::Position`] where `to` is not below the length.
+    #[inline]
     pub fn copy_bit(&mut self, from: usize, to: usize) -> Result<(), Refusal> {
         self.edited(|set, words, size| unsafe { ffi::fbs_copy_bit(set, words, size, from, to) })
     }
@@ -160,6 +166,7 @@ impl<'w> FixedBitSet<'w> {
     /// assert_eq!(set.insert_range(..=70), Err(Refusal::Range));
     /// # Ok::<(), Refusal>(())
     /// ```
+    #[inline]
     pub fn insert_range(&mut self, range: impl RangeBounds<usize>) -> Result<(), Refusal> {
         let (start, end) = ends(range, self.set.length);
         self.edited(|set, words, size| unsafe { ffi::fbs_insert_range(set, words, size, start, end) })
@@ -169,6 +176,7 @@ impl<'w> FixedBitSet<'w> {
     ///
     /// # Errors
     /// [`Refusal::Range`] where the range is inverted or ends above the length.
+    #[inline]
     pub fn remove_range(&mut self, range: impl RangeBounds<usize>) -> Result<(), Refusal> {
         let (start, end) = ends(range, self.set.length);
         self.edited(|set, words, size| unsafe { ffi::fbs_remove_range(set, words, size, start, end) })
@@ -178,6 +186,7 @@ impl<'w> FixedBitSet<'w> {
     ///
     /// # Errors
     /// [`Refusal::Range`] where the range is inverted or ends above the length.
+    #[inline]
     pub fn toggle_range(&mut self, range: impl RangeBounds<usize>) -> Result<(), Refusal> {
         let (start, end) = ends(range, self.set.length);
         self.edited(|set, words, size| unsafe { ffi::fbs_toggle_range(set, words, size, start, end) })
@@ -187,12 +196,14 @@ impl<'w> FixedBitSet<'w> {
     ///
     /// # Errors
     /// [`Refusal::Range`] where the range is inverted or ends above the length.
+    #[inline]
     pub fn set_range(&mut self, range: impl RangeBounds<usize>, enabled: bool) -> Result<(), Refusal> {
         let (start, end) = ends(range, self.set.length);
         self.edited(|set, words, size| unsafe { ffi::fbs_set_range(set, words, size, start, end, enabled) })
     }
 
     /// Ends every membership.
+    #[inline]
     pub fn clear(&mut self) {
         self.edited(|set, words, size| unsafe { ffi::fbs_clear(set, words, size) }).expect(UNREFUSED);
     }
@@ -201,6 +212,7 @@ impl<'w> FixedBitSet<'w> {
     ///
     /// # Errors
     /// [`Refusal::NewLength`] where `bits` is above 65,536, [`Refusal::Room`] where the lent words are too few for it.
+    #[inline]
     pub fn grow(&mut self, bits: usize) -> Result<(), Refusal> {
         self.edited(|set, words, size| unsafe { ffi::fbs_grow(set, words, size, bits) })
     }
@@ -209,6 +221,7 @@ impl<'w> FixedBitSet<'w> {
     ///
     /// # Errors
     /// [`Refusal::NewLength`] where `bit` is above 65,535, [`Refusal::Room`] where the lent words are too few for it.
+    #[inline]
     pub fn grow_and_insert(&mut self, bit: usize) -> Result<(), Refusal> {
         self.edited(|set, words, size| unsafe { ffi::fbs_grow_and_insert(set, words, size, bit) })
     }
@@ -217,16 +230,19 @@ impl<'w> FixedBitSet<'w> {
     ///
     /// # Errors
     /// [`Refusal::Room`] where the lent words are too few for the larger length.
+    #[inline]
     pub fn union_with<'o>(&mut self, other: impl Into<View<'o>>) -> Result<(), Refusal> {
         self.joined(other.into(), ffi::fbs_union_with)
     }
 
     /// Keeps the members that are in the other set. The length stays.
+    #[inline]
     pub fn intersect_with<'o>(&mut self, other: impl Into<View<'o>>) {
         self.joined(other.into(), ffi::fbs_intersect_with).expect(UNREFUSED);
     }
 
     /// Keeps the members that are not in the other set. The length stays.
+    #[inline]
     pub fn difference_with<'o>(&mut self, other: impl Into<View<'o>>) {
         self.joined(other.into(), ffi::fbs_difference_with).expect(UNREFUSED);
     }
@@ -235,17 +251,20 @@ impl<'w> FixedBitSet<'w> {
     ///
     /// # Errors
     /// [`Refusal::Room`] where the lent words are too few for the larger length.
+    #[inline]
     pub fn symmetric_difference_with<'o>(&mut self, other: impl Into<View<'o>>) -> Result<(), Refusal> {
         self.joined(other.into(), ffi::fbs_symmetric_difference_with)
     }
 
     /// An edit; `edit` calls it with the pointer and the number of words of a slice that is borrowed alone.
+    #[inline]
     fn edited(&mut self, edit: impl FnOnce(FbsSet, *mut u64, usize) -> FbsEdited) -> Result<(), Refusal> {
         let edited = edit(self.set, self.words.as_mut_ptr(), self.words.len());
         self.set = edited.set;
         accepted(edited.number, ())
     }
 
+    #[inline]
     fn joined(&mut self, other: View<'_>, join: Join) -> Result<(), Refusal> {
         let (b, others, other_size) = other.raw();
         // SAFETY: the pointers and the numbers of words are those of slices, and the one that is written is borrowed alone.

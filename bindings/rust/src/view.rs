@@ -103,6 +103,7 @@ macro_rules! of_both_types {
     )*) => {
         impl<'w> View<'w> {
             $($(#[$doc])*
+            #[inline]
             pub fn $name$(<$out>)?($self $(, $given: $type)*) -> $answer $body)*
         }
 
@@ -110,6 +111,7 @@ macro_rules! of_both_types {
         #[allow(clippy::needless_lifetimes)]
         impl FixedBitSet<'_> {
             $($(#[$doc])*
+            #[inline]
             pub fn $name<'w $(, $out)?>(&'w self $(, $given: $type)*) -> $answer {
                 self.view().$name($($given),*)
             })*

@@ -74,6 +74,8 @@ type ManyOfTwo = unsafe extern "C" fn(FbsSet, *const u64, usize, FbsSet, *const 
 type ManyOfParts = unsafe extern "C" fn(FbsSet, *const u64, usize, FbsSet, *const u64, usize, FbsPart, FbsPart, *mut u64, usize) -> FbsNextManyPair;
 
 /// A walk over one set.
+///
+/// A step at the back changes one number of a record, so only that is copied: a copy of the whole record has to wait for the stores of the call.
 #[derive(Clone, Debug)]
 struct OneSet<'w> {
     set: View<'w>,
@@ -85,11 +87,12 @@ impl<'w> OneSet<'w> {
         OneSet { set, part: first(set) }
     }
 
-    fn step(&mut self, step: StepOfOne) -> Option<usize> {
+    #[inline]
+    fn step_back(&mut self, step: StepOfOne) -> Option<usize> {
         let (set, words, size) = self.set.raw();
         // SAFETY: the pointer and the number of words are those of a slice.
         let stepped = unsafe { step(set, words, size, self.part) };
-        self.part = stepped.part;
+        self.part.high = stepped.part.high;
         unrefused(stepped.number, stepped.found.then_some(stepped.at))
     }
 
@@ -115,11 +118,12 @@ impl<'w> TwoSets<'w> {
         TwoSets { a, b, part: first(a) }
     }
 
-    fn step(&mut self, step: StepOfTwo) -> Option<usize> {
+    #[inline]
+    fn step_back(&mut self, step: StepOfTwo) -> Option<usize> {
         let ((a, words, size), (b, others, other_size)) = (self.a.raw(), self.b.raw());
         // SAFETY: the pointers and the numbers of words are those of slices.
         let stepped = unsafe { step(a, words, size, b, others, other_size, self.part) };
-        self.part = stepped.part;
+        self.part.high = stepped.part.high;
         unrefused(stepped.number, stepped.found.then_some(stepped.at))
     }
 
@@ -146,18 +150,17 @@ impl<'w> TwoParts<'w> {
         TwoParts { a, b, one: first(a), two: first(b) }
     }
 
-    /// A step at the back.
-    fn step(&mut self, step: StepOfParts) -> Option<usize> {
+    #[inline]
+    fn step_back(&mut self, step: StepOfParts) -> Option<usize> {
         let ((a, words, size), (b, others, other_size)) = (self.a.raw(), self.b.raw());
         // SAFETY: the pointers and the numbers of words are those of slices.
         let stepped = unsafe { step(a, words, size, b, others, other_size, self.one, self.two) };
-        if stepped.one != self.one {
-            // The second part is over: its record is closed, so that no later call looks through it again.
-            self.two.high = self.two.low;
+        if stepped.one.high == self.one.high {
+            self.two.high = stepped.two.high;
         } else {
-            self.two = stepped.two;
+            // The second part is over: its record is closed, so that no later call looks through it again.
+            (self.one.high, self.two.high) = (stepped.one.high, self.two.low);
         }
-        self.one = stepped.one;
         unrefused(stepped.number, stepped.found.then_some(stepped.at))
     }
 
@@ -272,9 +275,10 @@ macro_rules! walk {
         }
 
         $(impl DoubleEndedIterator for $name<'_> {
+            #[inline]
             fn next_back(&mut self) -> Option<usize> {
                 if !self.front.over {
-                    let found = self.walk.step(ffi::$next_back);
+                    let found = self.walk.step_back(ffi::$next_back);
                     self.front.took(usize::from(found.is_some()), 1);
                     if found.is_some() {
                         return found;
