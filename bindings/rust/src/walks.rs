@@ -7,9 +7,9 @@ use crate::view::View;
 use std::fmt;
 use std::iter::FusedIterator;
 
-/// How many positions a call gives for the front, and how many the first call of a walk: often only its first position is wanted.
+/// How many positions a call gives for the front. The first call of a walk asks for one: often only that is wanted.
 const BUFFER: usize = 128;
-const FIRST: usize = 8;
+const FIRST: usize = 1;
 
 fn first(view: View<'_>) -> FbsPart {
     // SAFETY: a plain number.

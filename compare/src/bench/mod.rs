@@ -45,10 +45,10 @@ pub fn run(seed: u64) {
         println!("No instructions: valgrind is not at hand, or could not run this program.");
     }
     println!(
-        "| {:<44} | {:>6} | {:>9} | {:>9} | {:>8} | {:>9} | {:>9} | {:>8} |",
+        "| {:<46} | {:>6} | {:>9} | {:>9} | {:>8} | {:>9} | {:>9} | {:>8} |",
         "call", "L", "ours, ns", "Rust, ns", "ratio", "ours", "Rust", "ratio"
     );
-    println!("|{:-<46}|{:->8}|{:->11}|{:->11}|{:->10}|{:->11}|{:->11}|{:->10}|", "", ":", ":", ":", ":", ":", ":", ":");
+    println!("|{:-<48}|{:->8}|{:->11}|{:->11}|{:->10}|{:->11}|{:->11}|{:->10}|", "", ":", ":", ":", ":", ":", ":", ":");
     all(&mut Bench { mode: Mode::Table { counts }, made: 0 }, seed);
 }
 
@@ -111,7 +111,7 @@ impl Bench {
                 let each = |time: Duration| time.as_nanos() as f64 / per as f64;
                 let times = shown(each(x), each(y), 1);
                 let instructions = counts.get(self.made).map(|(x, y)| shown(*x as f64 / per as f64, *y as f64 / per as f64, 1));
-                println!("| {name:<44} | {length:>6} | {times} | {} |", instructions.unwrap_or_else(|| format!("{:>9} | {:>9} | {:>8}", "", "", "")));
+                println!("| {name:<46} | {length:>6} | {times} | {} |", instructions.unwrap_or_else(|| format!("{:>9} | {:>9} | {:>8}", "", "", "")));
             }
         }
         self.made += 1;

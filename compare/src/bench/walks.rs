@@ -10,6 +10,9 @@ use std::hint::black_box;
 /// About so many steps are taken in a run, from the start of the walk.
 const STEPS: usize = 2_048;
 
+/// Iterators that are made in a run for their first position alone.
+const FIRSTS: usize = 100;
+
 /// A step as the engine gives it.
 trait Stepped {
     type Records: Copy;
@@ -251,6 +254,9 @@ fn iterator<I: Iterator<Item = usize>, J: Iterator<Item = usize>>(
 pub fn iterators(bench: &mut Bench, name: &str, a: &Twice, b: &Twice) {
     let complement = Twice::new(a.length, |p| !a.rust.contains(p));
     let (x, y, length) = (a.view(), b.view(), a.length);
+    let first = |walk: &mut dyn FnMut() -> Option<usize>| again(FIRSTS, || walk().unwrap_or(0));
+    let (ours, rust) = (|| first(&mut || black_box(x).ones().next()), || first(&mut || black_box(&a.rust).ones().next()));
+    bench.row(&format!("first position, ones, {name}"), length, FIRSTS, ours, rust);
     iterator(bench, &format!("ones, {name}"), length, || x.ones(), || a.rust.ones());
     iterator(bench, &format!("ones back, {name}"), length, || x.ones().rev(), || a.rust.ones().rev());
     iterator(bench, &format!("zeroes, {name}"), length, || complement.view().zeroes(), || complement.rust.zeroes());
