@@ -19,9 +19,8 @@ use Rattle.word_bits.proofs.Digits.{digit-of-zero, digit-number, number-lt, row
 use Rattle.word_bits.proofs.Ends.{below-lt, below-no, below-yes}
 use Rattle.word_bits.proofs.LowestBit.{and-less}
 use Rattle.word_bits.proofs.Order.{lt-or-le}
-use Rattle.word_bits.proofs.LowMasks.{low-mask-lt}
-use Rattle.word_bits.proofs.ShiftMasks.{digit-from, digit-upto}
-use Rattle.next_many.specs.Helpers.{belowHigh, FillOutcome, stored, filled}
+use Rattle.word_bits.proofs.ShiftMasks.{digit-from}
+use Rattle.next_many.specs.Helpers.{FillOutcome, stored, filled}
 use Rattle.next_many.specs.Many.{frontSteps}
 use Rattle.next_many.proofs.ManyLaws.{steps-none, steps-at}
 
@@ -65,129 +64,93 @@ module _ (has : ℕ → Bool) (high n low : ℕ) (out : List ℕ) where
       (ap (λ (i : ℕ). drop i out) size ∙ sym (drop-set-lt (n + 1 + length ps) out n p (omega arith))))
       ∙ sym (ap (λ (i : ℕ). stored (n + 1) (set out n p) (frontSteps i has (record { low = p + 1; high = high }))) left)
 
--- ---- a word cut at high
-
-record BelowCut (x k high y : ℕ) : Type 0 where
-  fits : y < 2 ^ 64
-  on : (j : ℕ) → j < 64 → k * 64 + j < high → digit y j ≡ digit x j
-  off : (j : ℕ) → j < 64 → high ≤ k * 64 + j → digit y j ≡ false
-
-below-cut : (x k high : ℕ) → x < 2 ^ 64 → 0 < high → k ≤ (high - 1) / 64 → BelowCut x k high (belowHigh x k ((high - 1) / 64) (63 - (high - 1) % 64))
-below-cut x k high fit some l = go (lt-or-le k ((high - 1) / 64))
-  where
-    go : (k < (high - 1) / 64) ⊎ ((high - 1) / 64 ≤ k) → BelowCut x k high (belowHigh x k ((high - 1) / 64) (63 - (high - 1) % 64))
-    go (inl i) = rw (lt-ltb k ((high - 1) / 64) i) record { fits = fit; on = λ j a b. refl; off = λ j a b. absurd (omega arith) }
-    go (inr g) = rw (le-ltb k ((high - 1) / 64) g) record {
-      fits = and-lt 64 x (lowMask (64 - (63 - (high - 1) % 64))) fit (low-mask-lt (64 - (63 - (high - 1) % 64)));
-      on = λ j a b. digit-upto x (64 - (63 - (high - 1) % 64)) j a ∙ ap (λ (t : Bool). digit x j && t) (lt-ltb j (64 - (63 - (high - 1) % 64)) (omega arith)) ∙ and-true (digit x j);
-      off = λ j a b. digit-upto x (64 - (63 - (high - 1) % 64)) j a ∙ ap (λ (t : Bool). digit x j && t) (le-ltb j (64 - (63 - (high - 1) % 64)) (omega arith)) ∙ and-false (digit x j);
-    }
-
--- ---- the loop: `rest` is what is left of word k in low..high, and no position from low up stands before that word
+-- ---- the loop: `rest` is what is left of word k, and no position from low up stands before that word
 
 module _ (f : ℕ → ℕ) (high : ℕ) (whole : FillOutcome) (size : ℕ) where
   pub record Filling (k rest n low : ℕ) (out : List ℕ) : Type 0 where
     pub fits : rest < 2 ^ 64
     pub inside : k ≤ (high - 1) / 64
-    pub some : 0 < high
     pub near : low ≤ k * 64 + 64
     pub cut : (j : ℕ) → j < 64 → k * 64 + j < low → digit rest j ≡ false
-    pub beyond : (j : ℕ) → j < 64 → high ≤ k * 64 + j → digit rest j ≡ false
-    pub kept : (j : ℕ) → j < 64 → low ≤ k * 64 + j → k * 64 + j < high → digit rest j ≡ digit (f k) j
+    pub kept : (j : ℕ) → j < 64 → low ≤ k * 64 + j → digit rest j ≡ digit (f k) j
     pub passed : (q : ℕ) → low ≤ q → q < k * 64 → row f q ≡ false
     pub same : length out ≡ size
     pub to-come : filled (row f) high n low out ≡ whole
 
   module _ {k rest n low : ℕ} {out : List ℕ} (h : Filling k rest n low out) where
-    in-word : (q : ℕ) → low ≤ q → q < high → k * 64 ≤ q → q < k * 64 + 64 → row f q ≡ digit rest (q - k * 64)
-    in-word q a c b l =
-        ap (row f) (sym (add-sub-of-le b)) ∙ row-at f k (q - k * 64) (omega arith) ∙ sym (h .kept (q - k * 64) (omega arith) (omega arith) (omega arith))
+    in-word : (q : ℕ) → low ≤ q → k * 64 ≤ q → q < k * 64 + 64 → row f q ≡ digit rest (q - k * 64)
+    in-word q a b l =
+        ap (row f) (sym (add-sub-of-le b)) ∙ row-at f k (q - k * 64) (omega arith) ∙ sym (h .kept (q - k * 64) (omega arith) (omega arith))
 
     module _ (z : rest ≡ 0) where
-      passed-word : (q : ℕ) → low ≤ q → q < high → q < k * 64 + 64 → row f q ≡ false
-      passed-word q a c l = go (lt-or-le q (k * 64))
+      passed-word : (q : ℕ) → low ≤ q → q < k * 64 + 64 → row f q ≡ false
+      passed-word q a l = go (lt-or-le q (k * 64))
         where
           go : (q < k * 64) ⊎ (k * 64 ≤ q) → row f q ≡ false
           go (inl i) = h .passed q a i
-          go (inr g) = in-word q a c g l ∙ ap (λ (x : ℕ). digit x (q - k * 64)) z ∙ digit-of-zero (q - k * 64)
+          go (inr g) = in-word q a g l ∙ ap (λ (x : ℕ). digit x (q - k * 64)) z ∙ digit-of-zero (q - k * 64)
 
-      pub filling-word : {w : ℕ} → f (k + 1) < 2 ^ 64 → k < (high - 1) / 64 → w ≡ belowHigh (f (k + 1)) (k + 1) ((high - 1) / 64) (63 - (high - 1) % 64) → Filling (k + 1) w n low out
-      filling-word fit l e =
-          let b = below-cut (f (k + 1)) (k + 1) high fit (h .some) (omega arith) in
-          rw e record {
-            fits = b .fits;
-            inside = omega arith;
-            some = h .some;
-            near = omega (arith, h .near);
-            cut = λ j i c. absurd (omega (arith, h .near));
-            beyond = b .off;
-            kept = λ j i a c. b .on j i c;
-            passed = λ q a c. passed-word q a (omega arith) (omega arith);
-            same = h .same;
-            to-come = h .to-come;
-          }
+      pub filling-word : {w : ℕ} → f (k + 1) < 2 ^ 64 → k + 1 < (high - 1) / 64 + 1 → w ≡ f (k + 1) → Filling (k + 1) w n low out
+      filling-word fit l e = rw e record {
+        fits = fit;
+        inside = omega arith;
+        near = omega (arith, h .near);
+        cut = λ j i b. absurd (omega (arith, h .near));
+        kept = λ j i b. refl;
+        passed = λ q a b. passed-word q a (omega arith);
+        same = h .same;
+        to-come = h .to-come;
+      }
 
-      pub filling-over : (high - 1) / 64 ≤ k → record { count = n; low = low; out = out } ≡ whole
-      filling-over g = sym (filled-over (row f) high n low out (λ q a b. passed-word q a b (omega (arith, h .some)))) ∙ h .to-come
+      pub filling-over : (high - 1) / 64 + 1 ≤ k + 1 → record { count = n; low = low; out = out } ≡ whole
+      filling-over g = sym (filled-over (row f) high n low out (λ q a b. passed-word q a (omega arith))) ∙ h .to-come
 
     pub filling-full : length out ≤ n → record { count = n; low = low; out = out } ≡ whole
     filling-full g = sym (filled-full (row f) high n low out g) ∙ h .to-come
 
-    module _ (left : rest ≡ 0 → ⊥) where
+    module _ (some : rest ≡ 0 → ⊥) where
       pub lowest-lt : zerosBelow 64 (digit rest) < 64
       lowest-lt = below-lt 64 rest (omega arith) (h .fits)
 
-      lowest-yes : digit rest (zerosBelow 64 (digit rest)) ≡ true
-      lowest-yes = below-yes 64 (digit rest) lowest-lt
-
-      -- it stands from low up, and below high
+      -- it stands from low up
       pub lowest-le : low ≤ k * 64 + zerosBelow 64 (digit rest)
       lowest-le = go (lt-or-le (k * 64 + zerosBelow 64 (digit rest)) low)
         where
           go : (k * 64 + zerosBelow 64 (digit rest) < low) ⊎ (low ≤ k * 64 + zerosBelow 64 (digit rest)) → low ≤ k * 64 + zerosBelow 64 (digit rest)
-          go (inl i) = absurd (false≢true (sym (h .cut (zerosBelow 64 (digit rest)) lowest-lt i) ∙ lowest-yes))
+          go (inl i) = absurd (false≢true (sym (h .cut (zerosBelow 64 (digit rest)) lowest-lt i) ∙ below-yes 64 (digit rest) lowest-lt))
           go (inr g) = g
-
-      pub lowest-high : k * 64 + zerosBelow 64 (digit rest) < high
-      lowest-high = go (lt-or-le (k * 64 + zerosBelow 64 (digit rest)) high)
-        where
-          go : (k * 64 + zerosBelow 64 (digit rest) < high) ⊎ (high ≤ k * 64 + zerosBelow 64 (digit rest)) → k * 64 + zerosBelow 64 (digit rest) < high
-          go (inl i) = i
-          go (inr g) = absurd (false≢true (sym (h .beyond (zerosBelow 64 (digit rest)) lowest-lt g) ∙ lowest-yes))
 
       before : (q : ℕ) → low ≤ q → q < k * 64 + zerosBelow 64 (digit rest) → row f q ≡ false
       before q a b = go (lt-or-le q (k * 64))
         where
           go : (q < k * 64) ⊎ (k * 64 ≤ q) → row f q ≡ false
           go (inl i) = h .passed q a i
-          go (inr g) = in-word q a (omega (arith, lowest-high)) g (omega (arith, lowest-lt)) ∙ below-no 64 (digit rest) (q - k * 64) (omega arith)
+          go (inr g) = in-word q a g (omega (arith, lowest-lt)) ∙ below-no 64 (digit rest) (q - k * 64) (omega arith)
+
+      pub filling-past : high ≤ k * 64 + zerosBelow 64 (digit rest) → record { count = n; low = low; out = out } ≡ whole
+      filling-past g = sym (filled-over (row f) high n low out (λ q a b. before q a (omega arith))) ∙ h .to-come
 
       -- the word without its lowest digit
       unset-digit : (j : ℕ) → j < 64 → digit (bitAnd rest (rest - 1)) j ≡ (digit rest j && not (eqb j (zerosBelow 64 (digit rest))))
       unset-digit j i =
           ap (λ (x : ℕ). digit x j) (and-less 64 rest (omega arith) (h .fits)) ∙ digit-number 64 (λ i. digit rest i && not (eqb i (zerosBelow 64 (digit rest)))) j i
 
-      gone : (j : ℕ) → digit rest j ≡ false → (digit rest j && not (eqb j (zerosBelow 64 (digit rest)))) ≡ false
-      gone j e = ap (λ (x : Bool). x && not (eqb j (zerosBelow 64 (digit rest)))) e
-
-      pub filling-position : {r : ℕ} → r ≡ k * 64 + zerosBelow 64 (digit rest) → n < length out → Filling k (bitAnd rest (rest - 1)) (n + 1) (r + 1) (set out n r)
-      filling-position {r} e l = rw e record {
+      pub filling-position : {r : ℕ} → r ≡ k * 64 + zerosBelow 64 (digit rest) → r < high → n < length out → Filling k (bitAnd rest (rest - 1)) (n + 1) (r + 1) (set out n r)
+      filling-position {r} e b l = rw e record {
         fits = rw (and-less 64 rest (omega arith) (h .fits)) (number-lt 64 (λ i. digit rest i && not (eqb i (zerosBelow 64 (digit rest)))));
         inside = h .inside;
-        some = h .some;
         near = omega (arith, lowest-lt);
-        cut = λ j i c. unset-digit j i ∙ below j c (lt-or-le j (zerosBelow 64 (digit rest)));
-        beyond = λ j i c. unset-digit j i ∙ gone j (h .beyond j i c);
-        kept = λ j i a c. unset-digit j i ∙ stays j a ∙ h .kept j i (omega (arith, lowest-le)) c;
+        cut = λ j i c. unset-digit j i ∙ gone j i c (lt-or-le j (zerosBelow 64 (digit rest)));
+        kept = λ j i c. unset-digit j i ∙ stays j c ∙ h .kept j i (omega (arith, lowest-le));
         passed = λ q a c. absurd (omega arith);
         same = length-set out n _ ∙ h .same;
-        to-come = sym (filled-more (row f) high n low out (k * 64 + zerosBelow 64 (digit rest)) lowest-le lowest-high at-lowest before l) ∙ h .to-come;
+        to-come = sym (filled-more (row f) high n low out (k * 64 + zerosBelow 64 (digit rest)) lowest-le (omega arith) at-lowest before l) ∙ h .to-come;
       }
         where
-          below : (j : ℕ) → k * 64 + j < k * 64 + zerosBelow 64 (digit rest) + 1 → (j < zerosBelow 64 (digit rest)) ⊎ (zerosBelow 64 (digit rest) ≤ j)
+          gone : (j : ℕ) → j < 64 → k * 64 + j < k * 64 + zerosBelow 64 (digit rest) + 1 → (j < zerosBelow 64 (digit rest)) ⊎ (zerosBelow 64 (digit rest) ≤ j)
               → (digit rest j && not (eqb j (zerosBelow 64 (digit rest)))) ≡ false
-          below j c (inl a) = gone j (below-no 64 (digit rest) j a)
-          below j c (inr g) =
+          gone j i c (inl a) = ap (λ (x : Bool). x && not (eqb j (zerosBelow 64 (digit rest)))) (below-no 64 (digit rest) j a)
+          gone j i c (inr g) =
               ap (λ (x : Bool). digit rest j && not x) (eq-eqb j (zerosBelow 64 (digit rest)) (omega arith)) ∙ and-false (digit rest j)
 
           stays : (j : ℕ) → k * 64 + zerosBelow 64 (digit rest) + 1 ≤ k * 64 + j → (digit rest j && not (eqb j (zerosBelow 64 (digit rest)))) ≡ digit rest j
@@ -196,27 +159,21 @@ module _ (f : ℕ → ℕ) (high : ℕ) (whole : FillOutcome) (size : ℕ) where
           at-lowest : row f (k * 64 + zerosBelow 64 (digit rest)) ≡ true
           at-lowest =
               row-at f k (zerosBelow 64 (digit rest)) lowest-lt
-              ∙ sym (h .kept (zerosBelow 64 (digit rest)) lowest-lt lowest-le lowest-high) ∙ lowest-yes
+              ∙ sym (h .kept (zerosBelow 64 (digit rest)) lowest-lt lowest-le) ∙ below-yes 64 (digit rest) lowest-lt
 
-  -- the first word, cut at low too
-  pub filling-start : {w n low : ℕ} {out : List ℕ} → f (low / 64) < 2 ^ 64 → low < high
-      → w ≡ belowHigh (bitAnd (f (low / 64)) ((2 ^ 64 - 1) - lowMask (low % 64))) (low / 64) ((high - 1) / 64) (63 - (high - 1) % 64) → length out ≡ size
+  -- the first word, cut at low
+  pub filling-start : {w n low : ℕ} {out : List ℕ} → f (low / 64) < 2 ^ 64 → low < high → w ≡ bitAnd (f (low / 64)) ((2 ^ 64 - 1) - lowMask (low % 64)) → length out ≡ size
       → filled (row f) high n low out ≡ whole → Filling (low / 64) w n low out
-  filling-start {w} {n} {low} {out} fit l e s t =
-      let x = bitAnd (f (low / 64)) ((2 ^ 64 - 1) - lowMask (low % 64)) in
-      let b = below-cut x (low / 64) high (and-lt 64 (f (low / 64)) ((2 ^ 64 - 1) - lowMask (low % 64)) fit (ones-sub-lt 64 (lowMask (low % 64)))) (omega arith) (omega arith) in
-      rw e record {
-        fits = b .fits;
-        inside = omega arith;
-        some = omega arith;
-        near = omega arith;
-        cut = λ j i c. b .on j i (omega arith) ∙ digit-from (f (low / 64)) (low % 64) j i ∙ ap (λ (x : Bool). digit (f (low / 64)) j && not x) (lt-ltb j (low % 64) (omega arith)) ∙ and-false (digit (f (low / 64)) j);
-        beyond = b .off;
-        kept = λ j i a c. b .on j i c ∙ digit-from (f (low / 64)) (low % 64) j i ∙ ap (λ (x : Bool). digit (f (low / 64)) j && not x) (le-ltb j (low % 64) (omega arith)) ∙ and-true (digit (f (low / 64)) j);
-        passed = λ q a c. absurd (omega arith);
-        same = s;
-        to-come = t;
-      }
+  filling-start {w} {n} {low} {out} fit l e s t = rw e record {
+    fits = and-lt 64 (f (low / 64)) ((2 ^ 64 - 1) - lowMask (low % 64)) fit (ones-sub-lt 64 (lowMask (low % 64)));
+    inside = omega arith;
+    near = omega arith;
+    cut = λ j i b. digit-from (f (low / 64)) (low % 64) j i ∙ ap (λ (x : Bool). digit (f (low / 64)) j && not x) (lt-ltb j (low % 64) (omega arith)) ∙ and-false (digit (f (low / 64)) j);
+    kept = λ j i b. digit-from (f (low / 64)) (low % 64) j i ∙ ap (λ (x : Bool). digit (f (low / 64)) j && not x) (le-ltb j (low % 64) (omega arith)) ∙ and-true (digit (f (low / 64)) j);
+    passed = λ q a b. absurd (omega arith);
+    same = s;
+    to-come = t;
+  }
 
 -- ---- an inner loop: the whole of where it starts, and the whole of the outer one
 
@@ -226,10 +183,8 @@ module _ (f : ℕ → ℕ) (high : ℕ) where
   filling-in whole size h = record {
     fits = h .fits;
     inside = h .inside;
-    some = h .some;
     near = h .near;
     cut = h .cut;
-    beyond = h .beyond;
     kept = h .kept;
     passed = h .passed;
     same = refl;
@@ -241,10 +196,8 @@ module _ (f : ℕ → ℕ) (high : ℕ) where
   filling-out whole size before h = record {
     fits = h .fits;
     inside = h .inside;
-    some = h .some;
     near = h .near;
     cut = h .cut;
-    beyond = h .beyond;
     kept = h .kept;
     passed = h .passed;
     same = h .same ∙ before .same;

@@ -1,17 +1,10 @@
 -- The loop that writes the positions of one part.
-use mathlib.Core.Bool.{Bool, cond}
+use mathlib.Core.Bool.{Bool}
 use mathlib.Core.List.{List, _++_}
 use Prim.Native.Nat.{ℕ, _+_, _-_}
-use lib.Bits.{bitAnd}
-use lib.Dec.{ltb}
 use lib.ListN.{length, take, drop}
-use Rattle.word_bits.specs.LowMask.{lowMask}
 use Rattle.next_many.specs.Many.{Many, frontSteps}
 use Rattle.next_many.specs.declared.answers.Filled.{Filled}
-
--- the last word of a part is cut to the places that are not above high - 1
-abbrev pub belowHigh : ℕ → ℕ → ℕ → ℕ → ℕ
-belowHigh word k last upto = cond (ltb k last) word (bitAnd word (lowMask (64 - upto)))
 
 pub record FillOutcome : Type 0 where
   pub count : ℕ

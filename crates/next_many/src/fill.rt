@@ -4,25 +4,13 @@ use parts::Selection;
 use parts::select_word;
 use word_bits::trailing_zeros;
 ghost use mathlib.Core.Path.{_≡_};
-ghost use Prim.Native.Nat.{ℕ, _*_, _≤_, _<_};
+ghost use Prim.Native.Nat.{ℕ, _*_, _≤_};
 ghost use lib.ListN.{length};
 ghost use Rattle.sets.specs.Members.{bitOf};
 ghost use Rattle.parts.specs.Selections.{selected};
-ghost use Rattle.next_many.specs.Helpers.{belowHigh, fillOutcome, filled};
+ghost use Rattle.next_many.specs.Helpers.{fillOutcome, filled};
 
-// Word k of low..high below high: only the last word, that of high - 1, is cut.
-fn below_high(word: u64, k: usize, last: usize, upto: usize) -> u64
-    requires { ⌜ upto < 64 ⌝ }
-    ensures { λ r. ⌜ r ≡ belowHigh word k last upto ⌝ }
-{
-    if k < last {
-        word
-    } else {
-        word & (u64::MAX >> upto)
-    }
-}
-
-// The selected positions of low..high, rising, into out[from..], as many as fit. `rest` is what is left of word k.
+// The selected positions of low..high, rising, into out[from..], as many as fit. `rest` is what is left of word k. High is asked of each position, so that no word but the first is cut.
 fn fill(
     words: &[u64],
     other: &[u64],
@@ -38,39 +26,31 @@ fn fill(
     if high <= low {
         return Filled { count: from, low };
     }
-    let last = (high - 1) / 64;
-    let upto = 63 - (high - 1) % 64;
+    let end = (high - 1) / 64 + 1;
     let bit = low % 64;
     let mut k = low / 64;
-    let mut rest = below_high(
-        select_word(words[k], block(other, k), selection) & (u64::MAX << bit),
-        k,
-        last,
-        upto,
-    );
+    let mut rest = select_word(words[k], block(other, k), selection) & (u64::MAX << bit);
     let mut count = from;
     let mut low = low;
     loop {
         while rest != 0 {
+            let p = k * 64 + trailing_zeros(rest);
+            if high <= p {
+                return Filled { count, low };
+            }
             if out.len() <= count {
                 return Filled { count, low };
             }
-            let p = k * 64 + trailing_zeros(rest);
             out[count] = p as u64;
             count += 1;
             low = p + 1;
             rest = rest & (rest - 1);
         }
-        if last <= k {
+        k += 1;
+        if end <= k {
             return Filled { count, low };
         }
-        k += 1;
-        rest = below_high(
-            select_word(words[k], block(other, k), selection),
-            k,
-            last,
-            upto,
-        );
+        rest = select_word(words[k], block(other, k), selection);
     }
 }
 
