@@ -17,13 +17,15 @@ use Rattle.sets.specs.declared.answers.Part.{Part}
 use Rattle.sets.specs.declared.fixed_bit_set.FixedBitSet.{FixedBitSet}
 use Rattle.sets.proofs.OutcomeLaws.{given-yes}
 use Rattle.sets.proofs.QuestionLaws.{Valid, first-both, BothValid, both-valid}
-use Rattle.sets.proofs.ReadLaws.{read-bit, read-above}
+use Rattle.sets.proofs.RangeQuestionLaws.{part-within}
+use Rattle.sets.proofs.ReadLaws.{read-bit, read-above, read-below}
 use Rattle.sets.proofs.WordLaws.{words-hold}
 use Rattle.parts.specs.Selections.{selected}
 use Rattle.parts.specs.Steps.{step}
 use Rattle.parts.specs.declared.records.End.{End}
 use Rattle.parts.specs.declared.records.Selection.{Selection}
 use Rattle.parts.specs.declared.records.Step.{Step}
+use Rattle.parts.proofs.PartLaws.{step-ext}
 use Rattle.walks.specs.Helpers.{rowOf, rowStep, placed}
 use Rattle.walks.specs.Rules.{taken, stepped, PairStep, pairStep, takenPair, steppedPair}
 use Rattle.walks.specs.declared.rows.RowStep.{RowStep}
@@ -48,13 +50,18 @@ own-row s a ws b vs v e f =
     (λ i. rowOf s (take (e i) ws) (take (f i) vs)) ∙ (λ i p. selected s (slice-bits a ws (v .one) p i) (slice-bits b vs (v .two) p i))
 
 module _ (a : FixedBitSet) (ws : List ℕ) (b : FixedBitSet) (vs : List ℕ) where
-  -- an accepted step of one part over those bits
+  -- an accepted step of one part, which ends within the first set, over the bits of all its words
   module _ (s : Selection) (part : Part) (asked : 0 ≡ twoQuestions a ws b vs part) where
-    pub one-taken : (end : End) {m n : ℕ} {t : Step} → m ≡ wordsOf (a .length) → n ≡ wordsOf (b .length) → t ≡ step end (rowOf s (take m ws) (take n vs)) part
+    pub one-taken : (end : End) {n : ℕ} {t : Step} → n ≡ wordsOf (b .length) → t ≡ step end (rowOf s ws (take n vs)) part
         → taken t ≡ stepped (twoQuestions a ws b vs part) part (step end (λ p. selected s (read ws a .has p) (read vs b .has p)) part)
-    one-taken end e f st =
-        let v = both-valid a ws b vs (first-both _ _ (sym asked) .0) in
-        given-yes _ asked (ap taken (st ∙ ap (λ (g : ℕ → Bool). step end g part) (own-row s a ws b vs v e f)))
+    one-taken end {n} f st =
+        let q = first-both _ _ (sym asked) in
+        let v = both-valid a ws b vs (q .0) in
+        let inside = part-within a part (q .1) .inside in
+        given-yes _ asked
+        (ap taken
+        (st ∙ step-ext (rowOf s ws (take n vs)) (λ p. selected s (read ws a .has p) (read vs b .has p)) part
+        (λ p l h. ap₂ (selected s) (sym (read-below ws a p (omega (arith, inside)))) (ap (λ (i : ℕ). bitOf (take i vs) p) f ∙ slice-bits b vs (v .two) p)) end))
 
   -- and of two
   module _ (s t : Selection) (one two : Part) (asked : 0 ≡ pairQuestions a ws b vs one two) where

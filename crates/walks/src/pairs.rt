@@ -17,7 +17,7 @@ ghost use Rattle.walks.specs.Rules.{stepped};
 ghost use Rattle.walks.specs.Rules.{intersectionNextRule, intersectionNextBackRule, differenceNextRule, differenceNextBackRule};
 ghost use Rattle.sets.specs.Questions.{twoQuestions};
 
-// `number` answers the questions of the step.
+// `number` answers the questions of the step. The part ends within the first set, so nothing after its own words is looked at.
 pub(crate) fn pair_step(
     number: u64,
     a: FixedBitSet,
@@ -38,13 +38,12 @@ pub(crate) fn pair_step(
             part,
         };
     }
-    let own = &words[..blocks_of(a.length)];
     let others = &other[..blocks_of(b.length)];
     let low = part.low;
     let high = part.high;
     match end {
         End::Front => {
-            let p = front_selected(own, others, selection, low, high);
+            let p = front_selected(words, others, selection, low, high);
             if high <= p {
                 return Stepped {
                     number: 0,
@@ -59,7 +58,7 @@ pub(crate) fn pair_step(
             }
         }
         End::Back => {
-            let above = back_selected(own, others, selection, low, high);
+            let above = back_selected(words, others, selection, low, high);
             if above <= low {
                 return Stepped {
                     number: 0,

@@ -21,55 +21,50 @@ asked c = sym (c .if1 .left) ∙ c .before .before .before .pre
 held : (c : tie.Else1) → let a = c .before .before .before .args in BothValid (a .a) (now (a .words)) (a .b) (now (a .other))
 held c = both-valid _ _ _ _ (first-both _ _ (sym (asked c)) .0)
 
-slice-aggregate-own : tie.Need-slice-aggregate-own
-slice-aggregate-own c = sym (length-take-le _ _ (rw (c .before .blocks-of .ensures) (held (c .before .before) .one .enough)))
-
 slice-aggregate-others : tie.Need-slice-aggregate-others
-slice-aggregate-others c = sym (length-take-le _ _ (rw (c .before .blocks-of2 .ensures) (held (c .before .before .before .before) .two .enough)))
+slice-aggregate-others c = sym (length-take-le _ _ (rw (c .before .blocks-of .ensures) (held (c .before .before) .two .enough)))
 
 returns-2 : tie.Need-returns-2
 returns-2 c =
     let s = c .before .before .before .before in
-    let start = s .before .before .before .before in
+    let start = s .before .before in
     let a = start .before .before .before .args in
     rw (c .before .before .enum-told .given .1)
     (one-taken (a .a) (now (a .words)) (a .b) (now (a .other)) (a .selection) (a .part) (asked start) Front
-    (s .before .before .before .blocks-of .ensures) (s .before .blocks-of2 .ensures) (front-lacks _ (a .part) _ (c .before .front-selected .ensures) (c .if2 .taken)))
+    (s .before .blocks-of .ensures) (front-lacks _ (a .part) _ (c .before .front-selected .ensures) (c .if2 .taken)))
 
 returns-3 : tie.Need-returns-3
 returns-3 c =
     let s = c .before .before .before .before in
-    let start = s .before .before .before .before in
+    let start = s .before .before in
     let a = start .before .before .before .args in
     rw (c .before .before .enum-told2 .given .1)
     (one-taken (a .a) (now (a .words)) (a .b) (now (a .other)) (a .selection) (a .part) (asked start) Back
-    (s .before .before .before .blocks-of .ensures) (s .before .blocks-of2 .ensures) (back-lacks _ (a .part) _ (c .before .back-selected .ensures) (c .if3 .taken)))
+    (s .before .blocks-of .ensures) (back-lacks _ (a .part) _ (c .before .back-selected .ensures) (c .if3 .taken)))
 
 returns-4 : tie.Need-returns-4
 returns-4 c =
     let s = c .before .before .before .before in
-    let start = s .before .before .before .before in
+    let start = s .before .before in
     let a = start .before .before .before .args in
     rw (c .before .before .enum-told .given .1)
     (one-taken (a .a) (now (a .words)) (a .b) (now (a .other)) (a .selection) (a .part) (asked start) Front
-    (s .before .before .before .blocks-of .ensures) (s .before .blocks-of2 .ensures) (front-found _ (a .part) _ (c .before .front-selected .ensures) (c .if2 .left)))
+    (s .before .blocks-of .ensures) (front-found _ (a .part) _ (c .before .front-selected .ensures) (c .if2 .left)))
 
 returns-5 : tie.Need-returns-5
 returns-5 c =
     let s = c .before .before .before .before in
-    let start = s .before .before .before .before in
+    let start = s .before .before in
     let a = start .before .before .before .args in
     rw (c .before .before .enum-told2 .given .1)
     (one-taken (a .a) (now (a .words)) (a .b) (now (a .other)) (a .selection) (a .part) (asked start) Back
-    (s .before .before .before .blocks-of .ensures) (s .before .blocks-of2 .ensures) (back-found _ (a .part) _ (c .before .back-selected .ensures) (c .if3 .left)))
+    (s .before .blocks-of .ensures) (back-found _ (a .part) _ (c .before .back-selected .ensures) (c .if3 .left)))
 
 pub pair-step-spec : {M : Type 1} → statement M
 pair-step-spec =
     tie.close
     (tie.spec
     returns
-    (λ c κs. search needs)
-    slice-aggregate-own
     (λ c κs. search needs)
     slice-aggregate-others
     (λ c. search needs)
