@@ -1,4 +1,5 @@
 pub mod ManyLaws
+pub mod BufferLaws
 pub mod FillLaws
 pub mod CallLaws
 pub mod MixLaws

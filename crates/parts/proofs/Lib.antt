@@ -1,3 +1,4 @@
 pub mod PartLaws
 pub mod SelectLaws
+mod CutWords
 pub mod WordSearch

@@ -1,6 +1,6 @@
--- The next position of a part, by the first or the last word that has one. A word is cut to what the part has of it by a mask; the other words are taken whole. Assumes nothing.
-use mathlib.Core.Path.{_≡_, refl, sym, ap, ap₂, _∙_}
-use mathlib.Core.Bool.{Bool, true, false, cond, not, _&&_, and-true, false≢true}
+-- The next position of a part, by the first or the last word that has one. The word at the end that the search starts from is cut by a mask; the other words are taken whole. Assumes nothing.
+use mathlib.Core.Path.{_≡_, sym, ap, ap₂, _∙_}
+use mathlib.Core.Bool.{Bool, true, false, cond, not, _&&_}
 use mathlib.Core.Logic.{_⊎_, inl, inr}
 use Prim.Native.Nat.{ℕ, suc, _+_, _-_, _*_, _/_, _%_, _^_, _≤_, _<_, max}
 use native.Mathlib.Nat.{add-sub-of-le}
@@ -18,41 +18,7 @@ use Rattle.word_bits.proofs.LowMasks.{low-mask-lt}
 use Rattle.word_bits.proofs.Order.{lt-or-le}
 use Rattle.word_bits.proofs.ShiftMasks.{digit-from, digit-upto}
 use Rattle.parts.specs.Helpers.{FirstWord, LastWord, topOf, nextFrom, bottomOf, prevFrom}
-
--- ---- a word x cut to g: the digits that `keep` says
-
-both-true : (a b : Bool) → (a && b) ≡ true → (a ≡ true) × (b ≡ true)
-both-true true b e = (refl, e)
-both-true false b e = absurd (false≢true e)
-
-module _ (x g : ℕ) (keep : ℕ → Bool) (fit : g < 2 ^ 64) (cut : (j : ℕ) → j < 64 → digit g j ≡ (digit x j && keep j)) where
-  -- a digit that is kept and is 0 in g is 0 in x
-  kept-no : (j : ℕ) → j < 64 → keep j ≡ true → digit g j ≡ false → digit x j ≡ false
-  kept-no j h k e = sym (and-true (digit x j)) ∙ ap (λ (b : Bool). digit x j && b) (sym k) ∙ sym (cut j h) ∙ e
-
-  pub cut-none : g ≡ 0 → (j : ℕ) → j < 64 → keep j ≡ true → digit x j ≡ false
-  cut-none z j h k = kept-no j h k (ap (λ (y : ℕ). digit y j) z ∙ digit-of-zero j)
-
-  module _ (n : g ≡ 0 → ⊥) where
-    pub lowest-lt : zerosBelow 64 (digit g) < 64
-    lowest-lt = below-lt 64 g (omega arith) fit
-
-    pub lowest-yes : (digit x (zerosBelow 64 (digit g)) ≡ true) × (keep (zerosBelow 64 (digit g)) ≡ true)
-    lowest-yes = both-true _ _ (sym (cut (zerosBelow 64 (digit g)) lowest-lt) ∙ below-yes 64 (digit g) lowest-lt)
-
-    pub lowest-no : (j : ℕ) → j < zerosBelow 64 (digit g) → keep j ≡ true → digit x j ≡ false
-    lowest-no j l k = kept-no j (omega (arith, lowest-lt)) k (below-no 64 (digit g) j l)
-
-    pub highest-lt : zerosAbove 64 (digit g) < 64
-    highest-lt = above-lt 64 g (omega arith) fit
-
-    pub highest-yes : (digit x (63 - zerosAbove 64 (digit g)) ≡ true) × (keep (63 - zerosAbove 64 (digit g)) ≡ true)
-    highest-yes =
-        let e : 64 - suc (zerosAbove 64 (digit g)) ≡ 63 - zerosAbove 64 (digit g) = omega arith in
-        both-true _ _ (sym (cut (63 - zerosAbove 64 (digit g)) (omega arith)) ∙ ap (digit g) (sym e) ∙ above-yes 64 (digit g) highest-lt)
-
-    pub highest-no : (j : ℕ) → j < 64 → 63 - zerosAbove 64 (digit g) < j → keep j ≡ true → digit x j ≡ false
-    highest-no j h l k = kept-no j h k (above-no 64 (digit g) j h (omega (arith, highest-lt)))
+use Rattle.parts.proofs.CutWords.{cut-none, lowest-yes, lowest-no, highest-yes, highest-no}
 
 -- ---- positions: bit j of word k is position 64 k + j
 

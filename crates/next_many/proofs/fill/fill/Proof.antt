@@ -16,7 +16,8 @@ use Rattle.parts.specs.Helpers.{selectWord, selectedWord}
 use Rattle.parts.specs.Selections.{selected}
 use Rattle.parts.proofs.SelectLaws.{select-lt, select-row}
 use Rattle.next_many.specs.Helpers.{FillOutcome, filled}
-use Rattle.next_many.proofs.FillLaws.{Filling, filled-over, filling-start, filling-word, filling-over, filling-full, filling-past, filling-position, filling-in, filling-out, lowest-lt, lowest-le}
+use Rattle.next_many.proofs.BufferLaws.{filled-over}
+use Rattle.next_many.proofs.FillLaws.{Filling, filling-start, filling-word, filling-over, filling-full, filling-past, filling-position, filling-in, filling-out, lowest-lt, lowest-le}
 use Rattle.next_many.proofs.fill.fill.Statement.{statement}
 use Rattle.next_many.proofs.fill.fill.Tie as tie
 
