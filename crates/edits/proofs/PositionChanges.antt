@@ -1,21 +1,27 @@
--- The words after the change of one position. Assumes nothing.
+-- One position: what its questions tell, its bit, and the words after its change. Assumes nothing.
 use mathlib.Core.Path.{_≡_, refl, sym, ap, ap₂, _∙_}
-use mathlib.Core.Bool.{Bool, true, false, cond}
+use mathlib.Core.Bool.{Bool, true, false, not, cond}
 use mathlib.Core.List.{List}
 use Prim.Native.Nat.{ℕ, _+_, _*_, _/_, _%_, _^_, _≤_, _<_}
 use native.Mathlib.Omega.{arith}
 use borrow.Author.Tests.{eq-eqb, ne-eqb, eqb-true, eqb-false}
+use lib.Bits.{bitAnd}
 use lib.Dec.{eqb}
 use lib.ListN.{length, getD, set as setAt, length-set}
 use lib.Seq.{getD-set-same, getD-set-other}
 use Rattle.word_bits.specs.Digits.{digit}
 use Rattle.word_bits.proofs.Operations.{digit-power}
-use Rattle.sets.specs.Members.{wordsOf, read, write, changed}
+use Rattle.word_bits.proofs.SingleBit.{single-bit, test-bit}
+use Rattle.sets.specs.Members.{wordsOf, bitOf, read, write, changed}
+use Rattle.sets.specs.Outcomes.{Outcome}
+use Rattle.sets.specs.Questions.{questions, positionQuestion, positionQuestions}
 use Rattle.sets.specs.declared.fixed_bit_set.FixedBitSet.{FixedBitSet}
-use Rattle.sets.proofs.QuestionLaws.{Valid}
-use Rattle.sets.proofs.ReadLaws.{changed-write}
+use Rattle.sets.proofs.OutcomeLaws.{given-yes}
+use Rattle.sets.proofs.QuestionLaws.{Valid, first-both, valid, position-below}
+use Rattle.sets.proofs.ReadLaws.{read-below, changed-write, changed-outcome}
 use Rattle.sets.proofs.WordLaws.{word-of}
 use Rattle.edits.specs.Changes.{effect, changedWord}
+use Rattle.edits.specs.Rules.{atPosition}
 use Rattle.edits.specs.declared.change.Change.{Change}
 use Rattle.edits.proofs.WordChanges.{changed-digit, changed-lt}
 
@@ -69,3 +75,36 @@ module _ (set : FixedBitSet) (ws : List ℕ) (v : Valid set ws) (fit : (k : ℕ)
           let q = eqb-false k (bit / 64) e in
           ap (λ (x : ℕ). digit x j) (other k q)
           ∙ sym (ap (λ (b : Bool). cond b (effect change (digit (getD ws k 0) j)) (digit (getD ws k 0) j)) (ne-eqb bit (k * 64 + j) (λ z. q (omega arith))))
+
+module _ (set : FixedBitSet) (ws : List ℕ) (bit : ℕ) (accepted : 0 ≡ positionQuestions set ws bit) where
+  position-asked : (questions set ws ≡ 0) × (positionQuestion set bit ≡ 0)
+  position-asked = first-both (questions set ws) (positionQuestion set bit) (sym accepted)
+
+  position-valid : Valid set ws
+  position-valid = valid set ws (position-asked .0)
+
+  position-in : bit < set .length
+  position-in = position-below set bit (position-asked .1)
+
+  -- the slice has the word of a position that 1 to 4 accept
+  pub position-room : bit / 64 < length ws
+  position-room = let w = word-of (set .length) bit position-in in let v = position-valid in omega arith
+
+  -- the test of its bit is membership
+  pub position-was : not (eqb (bitAnd (getD ws (bit / 64) 0) ((1 * 2 ^ (bit % 64)) % 2 ^ 64)) 0) ≡ read ws set .has bit
+  unfolding bitOf
+  position-was =
+      ap (λ (m : ℕ). not (eqb (bitAnd (getD ws (bit / 64) 0) m) 0)) (single-bit (bit % 64) (omega arith))
+      ∙ test-bit (getD ws (bit / 64) 0) (bit % 64) (omega arith) ∙ sym (read-below ws set bit position-in)
+
+  -- the change of its bit is the edit
+  pub position-outcome : ((k : ℕ) → getD ws k 0 < 2 ^ 64) → (change : Change) {x : ℕ}
+      → x ≡ changedWord change ((1 * 2 ^ (bit % 64)) % 2 ^ 64) (getD ws (bit / 64) 0)
+      → _≡_ {A = Outcome} (record { number = 0; set = set; words = setAt ws (bit / 64) x })
+      (atPosition set ws bit (changed (eqb bit) (effect change) (read ws set)))
+  position-outcome fit change e =
+      given-yes _ accepted
+      (changed-outcome set ws (eqb bit) (effect change)
+      (ap (λ (x : ℕ). setAt ws (bit / 64) x)
+      (e ∙ ap (λ (m : ℕ). changedWord change m (getD ws (bit / 64) 0)) (single-bit (bit % 64) (omega arith)))
+      ∙ position-write set ws position-valid fit bit position-in change))

@@ -1,6 +1,6 @@
 use crate::change::Change;
 use crate::change::assigning;
-use crate::change::change_block;
+use crate::change::change_word;
 use sets::Edited;
 use sets::FixedBitSet;
 use sets::check_position;
@@ -26,8 +26,9 @@ fn change_position(set: FixedBitSet, words: &mut [u64], bit: usize, change: Chan
     if number != 0 {
         return Edited { number, set };
     }
+    let k = bit / 64;
     let rem = bit % 64;
-    change_block(words, bit / 64, 1 << rem, change);
+    words[k] = change_word(words[k], 1 << rem, change);
     Edited { number: 0, set }
 }
 
@@ -71,10 +72,7 @@ pub fn copy_bit(set: FixedBitSet, words: &mut [u64], from: usize, to: usize) -> 
 pub fn put(set: FixedBitSet, words: &mut [u64], bit: usize) -> Replaced
     ensures { λ r. ⌜ putOutcome r (now (words .exit)) ≡ putRule set (now (words .entry)) bit ⌝ }
 {
-    let was = member(set, words, bit);
-    let edited = change_position(set, words, bit, Change::Insert);
-    let number = edited.number;
-    let set = edited.set;
+    let number = check_position(set, words, bit);
     if number != 0 {
         return Replaced {
             number,
@@ -82,5 +80,13 @@ pub fn put(set: FixedBitSet, words: &mut [u64], bit: usize) -> Replaced
             was: false,
         };
     }
-    Replaced { number, set, was }
+    let k = bit / 64;
+    let rem = bit % 64;
+    let word = words[k];
+    words[k] = change_word(word, 1 << rem, Change::Insert);
+    Replaced {
+        number: 0,
+        set,
+        was: word & (1 << rem) != 0,
+    }
 }
