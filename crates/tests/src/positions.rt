@@ -1,7 +1,6 @@
 use sets::FixedBitSet;
 use sets::Told;
 use sets::check;
-use sets::member;
 ghost use mathlib.Core.Path.{_≡_};
 ghost use Rattle.tests.specs.Rules.{containsRule};
 
@@ -13,8 +12,15 @@ pub fn contains(set: FixedBitSet, words: &[u64], bit: usize) -> Told
     if number != 0 {
         return Told { number, yes: false };
     }
+    if set.length <= bit {
+        return Told {
+            number: 0,
+            yes: false,
+        };
+    }
+    let rem = bit % 64;
     Told {
         number: 0,
-        yes: member(set, words, bit),
+        yes: words[bit / 64] & (1 << rem) != 0,
     }
 }
