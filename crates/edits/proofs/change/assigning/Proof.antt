@@ -1,4 +1,4 @@
--- `changes::assigning` meets its contract. Assumes nothing.
+-- `edits::assigning` meets its contract. Assumes nothing.
 use mathlib.Core.Path.{sym, fun-ext}
 use Rattle.edits.proofs.change.assigning.Statement.{statement}
 use Rattle.edits.proofs.change.assigning.Tie as tie

@@ -1,4 +1,4 @@
--- `changes::change_block` meets its contract. Assumes nothing.
+-- `edits::change_block` meets its contract. Assumes nothing.
 use mathlib.Core.Path.{sym, ap}
 use Prim.Native.Nat.{ℕ}
 use denote.Ref.{now}

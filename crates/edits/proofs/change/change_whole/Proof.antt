@@ -1,4 +1,4 @@
--- `changes::change_whole` meets its contract. Assumes nothing.
+-- `edits::change_whole` meets its contract. Assumes nothing.
 use mathlib.Core.Path.{_∙_}
 use denote.Ref.{now}
 use lib.ListN.{getD}

@@ -1,4 +1,4 @@
--- `changes::change_word` meets its contract. Assumes nothing.
+-- `edits::change_word` meets its contract. Assumes nothing.
 use Rattle.edits.proofs.WordChanges.{insert-word, remove-word, toggle-word}
 use borrow.Author.Needs.{needs}
 use Rattle.edits.proofs.change.change_word.Statement.{statement}

@@ -1,4 +1,4 @@
--- `changes::change_covered` meets its contract. Assumes nothing.
+-- `edits::change_covered` meets its contract. Assumes nothing.
 use Prim.Native.Nat.{_<_, _≤_, _-_, _/_}
 use denote.Ref.{now}
 use Rattle.masks.specs.Ranges.{endBlock}

@@ -1,4 +1,4 @@
--- `range_edits::set_range` meets its contract. Assumes nothing.
+-- `edits::set_range` meets its contract. Assumes nothing.
 use mathlib.Core.Path.{ap, _∙_}
 use mathlib.Core.Bool.{Bool}
 use denote.Ref.{now}

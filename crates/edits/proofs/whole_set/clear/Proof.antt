@@ -1,4 +1,4 @@
--- `growth::clear` meets its contract. Assumes nothing.
+-- `edits::clear` meets its contract. Assumes nothing.
 use mathlib.Core.Path.{_≡_, sym, ap, _∙_}
 use Prim.Native.Nat.{ℕ}
 use denote.Ref.{now}

@@ -1,4 +1,4 @@
--- `growth::grow` meets its contract. Assumes nothing.
+-- `edits::grow` meets its contract. Assumes nothing.
 use mathlib.Core.Path.{_≡_, sym, ap, ap₂, _∙_}
 use mathlib.Core.List.{List}
 use Prim.Native.Nat.{ℕ}

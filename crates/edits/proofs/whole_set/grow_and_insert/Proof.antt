@@ -1,4 +1,4 @@
--- `growth::grow_and_insert` meets its contract. Assumes nothing.
+-- `edits::grow_and_insert` meets its contract. Assumes nothing.
 use mathlib.Core.Path.{refl, sym, ap, ap₂, _∙_}
 use mathlib.Core.List.{List}
 use Prim.Native.Nat.{ℕ, _+_, _/_, _%_}

@@ -1,4 +1,4 @@
--- `fresh::fill_from` meets its contract. Assumes nothing.
+-- `sets::fill_from` meets its contract. Assumes nothing.
 use mathlib.Core.Path.{_≡_, ap, _∙_}
 use Prim.Native.Nat.{_-_, _/_, _%_, _^_}
 use denote.Ref.{now}

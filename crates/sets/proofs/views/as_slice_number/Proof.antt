@@ -1,4 +1,4 @@
--- `set_views::as_slice_number` meets its contract. Assumes nothing.
+-- `sets::as_slice_number` meets its contract. Assumes nothing.
 use borrow.Author.Needs.{needs}
 use Rattle.sets.proofs.views.as_slice_number.Statement.{statement}
 use Rattle.sets.proofs.views.as_slice_number.Tie as tie

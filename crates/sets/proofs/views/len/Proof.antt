@@ -1,4 +1,4 @@
--- `set_views::len` meets its contract. Assumes nothing.
+-- `sets::len` meets its contract. Assumes nothing.
 use mathlib.Core.Path.{sym, refl, _∙_}
 use Rattle.sets.proofs.OutcomeLaws.{given-no, given-yes}
 use borrow.Author.Needs.{needs}

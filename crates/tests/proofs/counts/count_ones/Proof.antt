@@ -1,4 +1,4 @@
--- `range_counts::count_ones` meets its contract. Assumes nothing.
+-- `tests::count_ones` meets its contract. Assumes nothing.
 use mathlib.Core.Path.{sym, ap, _∙_}
 use Rattle.sets.proofs.OutcomeLaws.{given-no, given-yes}
 use Prim.Native.Nat.{ℕ}

@@ -1,4 +1,4 @@
--- `range_counts::count_zeroes` meets its contract. Assumes nothing.
+-- `tests::count_zeroes` meets its contract. Assumes nothing.
 use mathlib.Core.Path.{_≡_, sym, ap, _∙_}
 use Rattle.sets.proofs.OutcomeLaws.{given-no, given-yes}
 use Prim.Native.Nat.{ℕ, _-_}

@@ -1,4 +1,4 @@
--- `range_counts::counts::ones_between` meets its contract. The sum is the ones of the words first..k. Assumes nothing.
+-- `tests::ones_between` meets its contract. The sum is the ones of the words first..k. Assumes nothing.
 use mathlib.Core.Path.{_≡_, ap, ap₂, _∙_}
 use Prim.Native.Nat.{ℕ, _≤_, _-_, _+_, _*_, max}
 use denote.Ref.{now}

@@ -1,4 +1,4 @@
--- `range_counts::counts::ones_of` meets its contract. Assumes nothing.
+-- `tests::ones_of` meets its contract. Assumes nothing.
 use mathlib.Core.Bool.{Bool}
 use mathlib.Core.Path.{_≡_, ap, ap₂, _∙_}
 use Prim.Native.Nat.{ℕ, _+_, _-_}

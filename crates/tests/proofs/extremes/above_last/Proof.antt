@@ -1,4 +1,4 @@
--- `extremes::ends::above_last` meets its contract. Each word k..end is 0. Assumes nothing.
+-- `tests::above_last` meets its contract. Each word k..end is 0. Assumes nothing.
 use mathlib.Core.Path.{_≡_, sym, _∙_}
 use Prim.Native.Nat.{ℕ, _≤_, _<_, _-_, _+_}
 use denote.Ref.{now}

@@ -1,4 +1,4 @@
--- `extremes::maximum` meets its contract. Assumes nothing.
+-- `tests::maximum` meets its contract. Assumes nothing.
 use mathlib.Core.Path.{_≡_, sym, ap, _∙_}
 use Prim.Native.Nat.{ℕ, _+_, _-_, _*_, _<_, _≤_}
 use denote.Ref.{now}

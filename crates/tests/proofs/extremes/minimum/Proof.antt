@@ -1,4 +1,4 @@
--- `extremes::minimum` meets its contract. Assumes nothing.
+-- `tests::minimum` meets its contract. Assumes nothing.
 use mathlib.Core.Path.{sym, ap, _∙_}
 use Prim.Native.Nat.{ℕ, _+_, _*_, _<_}
 use denote.Ref.{now}

@@ -1,4 +1,4 @@
--- `range_tests::tests::some_other` meets its contract. Assumes nothing.
+-- `tests::some_other` meets its contract. Assumes nothing.
 use mathlib.Core.Path.{_≡_, sym}
 use Prim.Native.Nat.{ℕ, _+_, _-_, _/_}
 use denote.Ref.{now}

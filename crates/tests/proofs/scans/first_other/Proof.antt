@@ -1,4 +1,4 @@
--- `queries::scans::first_other` meets its contract. Each word first..k is `skip`. Assumes nothing.
+-- `tests::first_other` meets its contract. Each word first..k is `skip`. Assumes nothing.
 use mathlib.Core.Path.{_≡_, sym, _∙_}
 use Prim.Native.Nat.{ℕ, _≤_, _<_, _+_, _-_, min, max}
 use denote.Ref.{now}
