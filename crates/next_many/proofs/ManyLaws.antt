@@ -9,10 +9,12 @@ use lib.ListN.{length}
 use Rattle.sets.specs.Outcomes.{positionOf}
 use Rattle.sets.specs.declared.answers.Part.{Part}
 use Rattle.sets.specs.declared.answers.Position.the-variants.{At, Nothing}
-use Rattle.parts.specs.Steps.{front}
+use Rattle.parts.specs.Steps.{front, back, step}
+use Rattle.parts.specs.declared.records.End.{End}
+use Rattle.parts.specs.declared.records.End.the-variants.{Front, Back}
 use Rattle.parts.specs.declared.records.Step.{Step}
-use Rattle.parts.proofs.PartLaws.{front-at, front-cases, front-none}
-use Rattle.walks.specs.Rules.{PairStep, orElse}
+use Rattle.parts.proofs.PartLaws.{front-at, front-cases, front-none, back-none}
+use Rattle.walks.specs.Rules.{PairStep, orElse, pairStep}
 use Rattle.next_many.specs.Many.{Many, frontSteps, ManyPair, frontPairs}
 
 -- a step, and n after it
@@ -107,3 +109,14 @@ pairs-alone f n one two =
     pairs-are f (λ p. false) n one two
     ∙ ap (joined m) (steps-none (λ p. false) two (λ p a b. refl) (n - length (m .positions)))
     ∙ ap (λ (xs : List ℕ). record { positions = xs; one = m .part; two = two }) (append-nil (m .positions))
+
+-- and so is a single step at either end
+abbrev alone : Part → Step → PairStep
+alone two s = record { at = s .at; one = s .part; two = two }
+
+pub step-alone : (end : End) (f : ℕ → Bool) (one two : Part) → pairStep end f (λ p. false) one two ≡ alone two (step end f one)
+step-alone Front f one two =
+    ap (λ (t : Step). orElse (front f one .at) (alone two (front f one)) (record { at = t .at; one = one; two = t .part })) (front-none (λ p. false) two (λ p a b. refl))
+    ∙ front-cases (λ s. orElse (s .at) (alone two s) (record { at = Nothing; one = one; two = two }) ≡ alone two s) f one (λ p. refl) refl
+step-alone Back f one two =
+    ap (λ (t : Step). orElse (t .at) (record { at = t .at; one = one; two = t .part }) (alone two (back f one))) (back-none (λ p. false) two (λ p a b. refl))

@@ -2,7 +2,8 @@
 use mathlib.Core.Path.{_≡_, refl, sym, ap, ap₂, _∙_}
 use mathlib.Core.Bool.{Bool}
 use mathlib.Core.List.{List, [], _∷_, _++_, reverse, append-assoc}
-use Prim.Native.Nat.{ℕ, zero, suc}
+use Prim.Native.Nat.{ℕ, zero, suc, _+_, min}
+use lib.ListN.{length}
 use Rattle.sets.specs.Members.{Members, setOf}
 use Rattle.sets.specs.Outcomes.{positionOf}
 use Rattle.sets.specs.declared.answers.Part.{Part}
@@ -13,9 +14,11 @@ use Rattle.walks.specs.Rules.{firstPart, PairStep, pairStep}
 use Rattle.whole_walks.specs.Walks.{walkList, firstRow, secondRow, answersFrom, answers}
 use Rattle.whole_walks.specs.Walked.{fronts, backs}
 use Rattle.whole_walks.specs.declared.walk.Walk.{Walk}
+use Rattle.whole_walks.proofs.PartLists.{left-first}
 use Rattle.whole_walks.proofs.WalkedLaws.{walked}
 use Rattle.next_many.specs.Many.{frontPairs}
-use Rattle.next_many.specs.Mixes.{Taking, single, many, frontsOf, backsOf, frontTimes, stepsOf}
+use Rattle.next_many.specs.Mixes.{Taking, single, many, frontsOf, backsOf, frontTimes, stepsOf, asked, MixInOrder}
+use Rattle.next_many.proofs.LeftLaws.{mix-gives}
 
 module _ (f g : ℕ → Bool) where
   -- n front steps, and those after them
@@ -55,13 +58,6 @@ module _ (f g : ℕ → Bool) where
       ap (λ (xs : List ℕ). positionOf (pairStep Back f g one two .at) ++ xs) (backs-are ts (pairStep Back f g one two .one) (pairStep Back f g one two .two))
   backs-are (many n ∷ ts) one two = backs-are ts (frontPairs n f g one two .one) (frontPairs n f g one two .two) ∙ sym (backs-after n (stepsOf ts) one two)
 
--- any of the five walks with any mix, from the first records on: the positions given at the front are, in order, the start of the walk's list, those given at the back its end,
--- last one first, and `middle` is what nothing gave
-pub record MixInOrder (walk : Walk) (a b : Members) (ts : List Taking) : Type 0 where
-  pub middle : List ℕ
-  pub in-order : frontsOf (firstRow walk a b) (secondRow walk a b) ts (firstPart (setOf a)) (firstPart (setOf b)) ++ middle
-      ++ reverse (backsOf (firstRow walk a b) (secondRow walk a b) ts (firstPart (setOf a)) (firstPart (setOf b))) ≡ walkList walk a b
-
 pub mix-walked : (walk : Walk) (a b : Members) → Clipped a → Clipped b → (ts : List Taking) → MixInOrder walk a b ts
 mix-walked walk a b ca cb ts =
     let w = walked walk a b ca cb (stepsOf ts) in
@@ -70,4 +66,6 @@ mix-walked walk a b ca cb ts =
       in-order =
           ap₂ (λ (xs ys : List ℕ). xs ++ w .middle ++ reverse ys) (fronts-are (firstRow walk a b) (secondRow walk a b) ts (firstPart (setOf a)) (firstPart (setOf b)))
           (backs-are (firstRow walk a b) (secondRow walk a b) ts (firstPart (setOf a)) (firstPart (setOf b))) ∙ w .in-order;
+      gives = mix-gives (firstRow walk a b) (secondRow walk a b) ts (firstPart (setOf a)) (firstPart (setOf b))
+          ∙ ap (λ (xs : List ℕ). min (asked ts) (length xs)) (ap₂ _++_ (left-first a (firstRow walk a b)) (left-first b (secondRow walk a b)) ∙ w .parts);
     }
