@@ -33,6 +33,10 @@ eqb-agree a b c d f g = go (eqb a b) refl
     go true e = sym (eq-eqb c d (f (eqb-true a b e)))
     go false e = sym (ne-eqb c d (λ q. eqb-false a b e (g q)))
 
+-- the slice has the word of a position below the length
+word-room : {set : FixedBitSet} {ws : List ℕ} → Valid set ws → (bit : ℕ) → bit < set .length → bit / 64 < length ws
+word-room {set} v bit h = let w = word-of (set .length) bit h in omega (arith, v .enough)
+
 module _ (set : FixedBitSet) (ws : List ℕ) (v : Valid set ws) (fit : (k : ℕ) → getD ws k 0 < 2 ^ 64) (bit : ℕ) (h : bit < set .length)
     (change : Change) where
   pub position-write : setAt ws (bit / 64) (changedWord change (2 ^ (bit % 64)) (getD ws (bit / 64) 0))
@@ -48,7 +52,7 @@ module _ (set : FixedBitSet) (ws : List ℕ) (v : Valid set ws) (fit : (k : ℕ)
       vs = setAt ws (bit / 64) new
 
       room : bit / 64 < length ws
-      room = let w = word-of (set .length) bit h in omega (arith, v .enough)
+      room = word-room v bit h
 
       below-ne : (k : ℕ) → wordsOf (set .length) ≤ k → k ≡ bit / 64 → ⊥
       below-ne k l e = let w = word-of (set .length) bit h in omega arith
@@ -76,6 +80,7 @@ module _ (set : FixedBitSet) (ws : List ℕ) (v : Valid set ws) (fit : (k : ℕ)
           ap (λ (x : ℕ). digit x j) (other k q)
           ∙ sym (ap (λ (b : Bool). cond b (effect change (digit (getD ws k 0) j)) (digit (getD ws k 0) j)) (ne-eqb bit (k * 64 + j) (λ z. q (omega arith))))
 
+-- a position that questions 1 to 4 accept
 module _ (set : FixedBitSet) (ws : List ℕ) (bit : ℕ) (accepted : 0 ≡ positionQuestions set ws bit) where
   position-asked : (questions set ws ≡ 0) × (positionQuestion set bit ≡ 0)
   position-asked = first-both (questions set ws) (positionQuestion set bit) (sym accepted)
@@ -86,9 +91,8 @@ module _ (set : FixedBitSet) (ws : List ℕ) (bit : ℕ) (accepted : 0 ≡ posit
   position-in : bit < set .length
   position-in = position-below set bit (position-asked .1)
 
-  -- the slice has the word of a position that 1 to 4 accept
   pub position-room : bit / 64 < length ws
-  position-room = let w = word-of (set .length) bit position-in in let v = position-valid in omega arith
+  position-room = word-room position-valid bit position-in
 
   -- the test of its bit is membership
   pub position-was : not (eqb (bitAnd (getD ws (bit / 64) 0) ((1 * 2 ^ (bit % 64)) % 2 ^ 64)) 0) ≡ read ws set .has bit

@@ -1,6 +1,5 @@
 -- `edits::change_position` meets its contract. Assumes nothing.
 use mathlib.Core.Path.{_≡_, sym, _∙_}
-use Prim.Native.Nat.{ℕ}
 use denote.Ref.{now}
 use Rattle.sets.specs.Questions.{positionQuestions}
 use Rattle.sets.proofs.OutcomeLaws.{edited-no}
