@@ -1,0 +1,4 @@
+pub mod TextLaws
+pub mod WriteLaws
+pub mod DecimalLaws
+pub mod Examples

@@ -1,0 +1,5 @@
+pub mod Texts
+pub mod Digits
+pub mod Parts
+pub mod Examples
+pub mod LineLaws
