@@ -1,9 +1,9 @@
 -- The fewest decimal digits of a number are its decimal. Assumes nothing.
-use mathlib.Core.Path.{_≡_, refl, ap, subst, subst⁻¹}
+use mathlib.Core.Path.{_≡_, ap, subst, subst⁻¹}
 use mathlib.Core.Logic.{_⊎_, inl, inr}
 use mathlib.Core.List.{List, [], _∷_, _++_}
 use Prim.Native.Nat.{ℕ, zero, suc, _+_, _-_, _*_, _/_, _%_, _^_, _≤_, _<_}
-use native.Mathlib.Nat.{pow-suc, pow-zero, div-lt-iff-lt-mul, le-div-iff-mul-le, one-le-pow, pow-le-pow-right}
+use native.Mathlib.Nat.{pow-suc, div-lt-iff-lt-mul, le-div-iff-mul-le, one-le-pow, pow-le-pow-right}
 use native.Mathlib.Omega.{arith}
 use borrow.Author.Tests.{lt-ltb, le-ltb}
 use Rattle.word_bits.proofs.Order.{lt-or-le}

@@ -1,7 +1,6 @@
 -- Numbers and long names as the tool writes them, worked out. Assumes nothing.
 use mathlib.Core.Path.{_≡_, refl}
-use Prim.Native.Nat.{ℕ, _-_, _^_}
-use Prim.Native.String.{String}
+use Prim.Native.Nat.{_-_, _^_}
 use Rattle.byte_texts.specs.Ascii.{ascii}
 use Rattle.byte_texts.specs.Texts.{decimal, decimalOf, visible, dots, shownText, shownName}
 

@@ -5,7 +5,7 @@ use mathlib.Core.Logic.{_⊎_, inl, inr}
 use Prim.Native.Nat.{ℕ, suc, _+_, _≤_, _<_, min}
 use native.Mathlib.Nat.{add-zero}
 use native.Mathlib.Omega.{arith}
-use lib.ListN.{length, take, drop, set, length-append, length-set}
+use lib.ListN.{length, take, drop, set, length-append}
 use lib.Seq.{sets, sets-eq, length-sets, set-out, take-set-le, take-at, length-take-le}
 use Rattle.word_bits.proofs.Order.{lt-or-le}
 use Rattle.byte_texts.specs.Texts.{Written, written}
@@ -62,9 +62,15 @@ module _ (out : List ℕ) (at : ℕ) where
     unfolding written
     written-length = length-sets out at text
 
+    pub written-same : {w : Written} → w ≡ written out at text → length (w .out) ≡ length out
+    written-same e = ap (λ (w : Written). length (w .out)) e ∙ written-length
+
     pub written-within : written out at text .end ≤ length out
     unfolding written
     written-within = omega arith
+
+    pub written-inside : {w : Written} → w ≡ written out at text → w .end ≤ length (w .out)
+    written-inside e = omega (arith, ap (λ (w : Written). w .end) e, written-same e, written-within)
 
     -- the bytes before it are as they were
     pub written-kept : (n : ℕ) → n ≤ at → take n (written out at text .out) ≡ take n out

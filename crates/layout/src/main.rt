@@ -1,4 +1,4 @@
-// The layout tool. What it does is in the crate layout_tool.
+// The layout tool. A program has no exit status: its verdict goes to descriptor 3, and bin/layout turns that into one.
 fn main() {
-    layout_tool::run_tool();
+    layout_tool::run_program();
 }

@@ -1,292 +1,200 @@
-use crate::messages::Problem;
-use crate::messages::refuse;
-use crate::texts::say;
-use crate::texts::say_number;
-use edits::put;
-use offset_texts::Entry;
-use offset_texts::Reading;
-use offset_texts::entry_of;
-use offset_texts::scan;
-use sets::FixedBitSet;
-use sets::Position;
-use std::num::wrapping_add_u64;
-use tests::count_ones;
-use walks::first_part;
-use walks::ones_next;
+use crate::arguments::part;
+use crate::messages::tell;
+use crate::messages::tell_error;
+use crate::messages::tell_number;
+use crate::streams::write_whole;
+use byte_texts::append_name;
+use check::same;
+use offset_files::Reading;
+use offset_files::finish;
+use offset_files::start;
+use offset_files::take;
+ghost use mathlib.Core.Path.{_≡_};
+ghost use mathlib.Core.Bool.{true};
+ghost use Prim.Native.Nat.{_≤_};
+ghost use lib.ListN.{length};
+ghost use Rattle.byte_texts.specs.Texts.{shownName};
+ghost use Rattle.layout_tool.specs.Loading.{Took, ReadSome, Usable};
 
-// How far a file is read: the unfinished line, how many lines have ended, and what stops the reading.
-pub struct Loading {
-    pub reading: Reading,
-    pub lines: u64,
-    pub problem: Problem,
+// What a read left: the reading, how many bytes came, and the error where it failed, 0 where it did not.
+struct Piece {
+    reading: Reading,
+    count: usize,
+    error: i32,
 }
 
-fn element(list: &[u64], k: usize) -> u64 {
-    if k < list.len() { list[k] } else { 0 }
+// Whether a file was read to its end, and if not the error, 0 at the limit.
+struct Read {
+    reading: Reading,
+    ended: bool,
+    error: i32,
 }
 
-fn set_element(list: &mut [u64], k: usize, value: u64) {
-    if k < list.len() {
-        list[k] = value;
+fn read_piece(
+    fd: i32,
+    reading: Reading,
+    name: &[u8],
+    line: &mut [u8],
+    words: &mut [u64],
+    table: &mut [u64],
+    report: &mut [u8],
+) -> Piece
+    ensures { λ r. ⌜ Took (now (name .entry)) reading (now (line .entry)) (now (words .entry)) (now (table .entry)) (now (report .entry)) (r .reading) (now (line .exit)) (now (words .exit)) (now (table .exit)) (now (report .exit)) ⌝ }
+{
+    let mut buffer = io::large_buffer();
+    let got = libc::read(fd, &mut buffer);
+    let error = if got < 0 { os::errno() } else { 0 };
+    let count = io::count(got, &buffer);
+    let after = take(&buffer[..count], reading, name, line, words, table, report);
+    Piece {
+        reading: after,
+        count,
+        error,
     }
 }
 
-// The offset is put into the set. Where it was there already, the two lines that name it first are kept.
-fn take_offset(
-    offset: usize,
-    line: u64,
+// Reads to the end of the file. The limit is 16 MiB: a proved loop has to end, and nothing says that a file does.
+fn read_pieces(
+    fd: i32,
+    name: &[u8],
+    line: &mut [u8],
     words: &mut [u64],
-    repeated: &mut [u64],
-    first: &mut [u64],
-    again: &mut [u64],
-) {
-    let set = FixedBitSet::new(65536);
-    let answer = put(set, words, offset);
-    if !answer.was {
-        set_element(first, offset, line);
+    table: &mut [u64],
+    report: &mut [u8],
+) -> Read
+    ensures { λ r. ⌜ (2052 ≤ length (now (line .entry)) → length (now (words .entry)) ≡ 1024 → length (now (table .entry)) ≡ 65536 → r .ended ≡ true
+        → ReadSome (now (name .entry)) (r .reading) (now (line .exit)) (now (words .exit)) (now (table .exit)) (now (report .exit))) ⌝ }
+{
+    let mut now = start(words, table);
+    let mut left: usize = 16777217;
+    let mut signals: usize = 1000;
+    while left > 0 {
+        let piece = read_piece(fd, now, name, line, words, table, report);
+        now = piece.reading;
+        let count = piece.count;
+        let error = piece.error;
+        if error != 0 {
+            if signals == 0 || error != libc::EINTR {
+                return Read {
+                    reading: now,
+                    ended: false,
+                    error,
+                };
+            }
+            signals -= 1;
+        } else if count == 0 {
+            return Read {
+                reading: now,
+                ended: true,
+                error: 0,
+            };
+        } else if left <= count {
+            left = 0;
+        } else {
+            left -= count;
+        }
+    }
+    Read {
+        reading: now,
+        ended: false,
+        error: 0,
+    }
+}
+
+fn tell_unread(name: &[u8], err: i32, error: i32) {
+    if error == 0 {
+        let _told = tell(err, b"ERROR: ", name, b": it has more than 16777216 bytes");
         return;
     }
-    let twice = put(set, repeated, offset);
-    if !twice.was {
-        set_element(again, offset, line);
-    }
+    let _told = tell_error(err, b"ERROR: ", name, b" cannot be read: ", error);
 }
 
-fn next_line(line: u64, problem: Problem) -> Loading {
-    Loading {
-        reading: Reading::start(),
-        lines: line,
-        problem,
-    }
-}
-
-fn end_line(
-    loading: Loading,
-    words: &mut [u64],
-    repeated: &mut [u64],
-    first: &mut [u64],
-    again: &mut [u64],
-) -> Loading {
-    let line = wrapping_add_u64(loading.lines, 1);
-    let reading = loading.reading;
-    let entry = entry_of(reading);
-    match entry {
-        Entry::Blank => next_line(line, Problem::None),
-        Entry::Offset(offset) => {
-            take_offset(offset, line, words, repeated, first, again);
-            next_line(line, Problem::None)
-        }
-        Entry::NotANumber => next_line(line, Problem::NotANumber),
-        Entry::TooLarge => next_line(line, Problem::TooLarge),
-        Entry::TooLong => next_line(line, Problem::TooLong),
-    }
-}
-
-// The lines of a piece. The line that the piece leaves unfinished goes on in the next one.
-fn feed(
-    piece: &[u8],
-    loading: Loading,
-    words: &mut [u64],
-    repeated: &mut [u64],
-    first: &mut [u64],
-    again: &mut [u64],
-) -> Loading {
-    let mut now = loading;
-    let mut left = piece.len();
-    let mut at = 0;
-    while left > 0 {
-        left -= 1;
-        let turn = feed_line(piece, at, now, words, repeated, first, again);
-        let after = turn.loading;
-        now = after;
-        if !turn.goes_on {
-            return now;
-        }
-        at = turn.at;
-    }
-    now
-}
-
-struct Turn {
-    loading: Loading,
-    at: usize,
-    goes_on: bool,
-}
-
-fn is_none(problem: Problem) -> bool {
-    match problem {
-        Problem::None => true,
-        Problem::NotANumber => false,
-        Problem::TooLarge => false,
-        Problem::TooLong => false,
-        Problem::CannotOpen => false,
-        Problem::CannotRead => false,
-        Problem::FileTooLarge => false,
-    }
-}
-
-fn feed_line(
-    piece: &[u8],
-    at: usize,
-    loading: Loading,
-    words: &mut [u64],
-    repeated: &mut [u64],
-    first: &mut [u64],
-    again: &mut [u64],
-) -> Turn {
-    let reading = loading.reading;
-    let scanned = scan(piece, at, reading);
-    let read = scanned.reading;
-    let so_far = Loading {
-        reading: read,
-        lines: loading.lines,
-        problem: Problem::None,
-    };
-    if !scanned.ended {
-        return Turn {
-            loading: so_far,
-            at: scanned.at,
-            goes_on: false,
-        };
-    }
-    let after = end_line(so_far, words, repeated, first, again);
-    let problem = after.problem;
-    Turn {
-        loading: after,
-        at: scanned.at,
-        goes_on: is_none(problem),
-    }
-}
-
-struct Read {
-    loading: Loading,
-    goes_on: bool,
-}
-
-fn stopped(loading: Loading, problem: Problem) -> Read {
-    let reading = loading.reading;
-    Read {
-        loading: Loading {
-            reading,
-            lines: loading.lines,
-            problem,
-        },
-        goes_on: false,
-    }
-}
-
-// Reads once. At the file's end a last line that has no line end is taken.
-fn read_some(
-    fd: i32,
-    loading: Loading,
-    words: &mut [u64],
-    repeated: &mut [u64],
-    first: &mut [u64],
-    again: &mut [u64],
-) -> Read {
-    let mut buf = io::buffer();
-    let got = libc::read(fd, &mut buf);
-    if got < 0 {
-        return stopped(loading, Problem::CannotRead);
-    }
-    if got == 0 {
-        let reading = loading.reading;
-        if !reading.begun {
-            return stopped(loading, Problem::None);
-        }
-        let last = end_line(loading, words, repeated, first, again);
-        let problem = last.problem;
-        return stopped(last, problem);
-    }
-    let n = io::count(got, &buf);
-    let after = feed(&buf[..n], loading, words, repeated, first, again);
-    let problem = after.problem;
-    Read {
-        loading: after,
-        goes_on: is_none(problem),
-    }
-}
-
-// A proved loop has to end, and nothing says that a file does: 4,096 pieces are 16 MiB.
-fn read_all(
-    fd: i32,
-    words: &mut [u64],
-    repeated: &mut [u64],
-    first: &mut [u64],
-    again: &mut [u64],
-) -> Loading {
-    let mut now = next_line(0, Problem::None);
-    let mut turns: u64 = 4097;
-    while turns > 0 {
-        turns -= 1;
-        let read = read_some(fd, now, words, repeated, first, again);
-        let after = read.loading;
-        now = after;
-        if !read.goes_on {
-            return now;
-        }
-    }
-    next_line(0, Problem::FileTooLarge)
-}
-
-// The offsets of a file, put into the words of a set of 65,536 bits. Where the file cannot be used, one message says so, and the answer is no.
-pub fn load(
-    name: &[u8],
-    words: &mut [u64],
-    repeated: &mut [u64],
-    first: &mut [u64],
-    again: &mut [u64],
-) -> bool {
-    let fd = os::open_read(name);
-    if fd < 0 {
-        refuse(name, 0, Problem::CannotOpen);
+// What is said of a file that was read. False where it may not be used, or where that could not be said.
+fn tell_file(reading: Reading, name: &[u8], allow_empty: bool, err: i32, report: &[u8]) -> bool {
+    if reading.report == report.len() {
+        let _told = tell(err, b"ERROR: ", name, b": too much is to be said of it");
         return false;
     }
-    let loading = read_all(fd, words, repeated, first, again);
-    let _closed = libc::close(fd);
-    let problem = loading.problem;
-    match problem {
-        Problem::None => true,
-        Problem::CannotRead => stop(name, 0, Problem::CannotRead),
-        Problem::FileTooLarge => stop(name, 0, Problem::FileTooLarge),
-        Problem::CannotOpen => stop(name, 0, Problem::CannotOpen),
-        Problem::NotANumber => stop(name, loading.lines, Problem::NotANumber),
-        Problem::TooLarge => stop(name, loading.lines, Problem::TooLarge),
-        Problem::TooLong => stop(name, loading.lines, Problem::TooLong),
+    if !write_whole(err, part(report, 0, reading.report)) {
+        return false;
     }
-}
-
-fn stop(name: &[u8], line: u64, problem: Problem) -> bool {
-    refuse(name, line, problem);
-    false
-}
-
-fn tell_repeat(name: &[u8], offset: usize, first: &[u64], again: &[u64]) {
-    say(name);
-    say(b": offset ");
-    say_number(offset as u64);
-    say(b" is named on line ");
-    say_number(element(first, offset));
-    say(b" and again on line ");
-    say_number(element(again, offset));
-    say(b"\n");
-}
-
-// Each offset that the file names more than once, with the first two lines that name it. Gives how many there are.
-pub fn tell_repeats(name: &[u8], repeated: &[u64], first: &[u64], again: &[u64]) -> u64 {
-    let set = FixedBitSet::new(65536);
-    let mut part = first_part(set);
-    let mut turns: u64 = 65537;
-    while turns > 0 {
-        turns -= 1;
-        let step = ones_next(set, repeated, part);
-        let at = step.at;
-        let after = step.part;
-        part = after;
-        match at {
-            Position::At(offset) => tell_repeat(name, offset, first, again),
-            Position::Nothing => turns = 0,
+    if reading.repeats > 20 {
+        let more = (reading.repeats - 20) as u64;
+        if !tell_number(
+            err,
+            b"warning: ",
+            name,
+            more,
+            b" more offsets are named again",
+        ) {
+            return false;
         }
     }
-    count_ones(set, repeated, 0, 65536).count as u64
+    if reading.bads > 20 {
+        let more = (reading.bads - 20) as u64;
+        let _told = tell_number(err, b"ERROR: ", name, more, b" more lines are bad");
+    }
+    if reading.bads != 0 {
+        return false;
+    }
+    if reading.named == 0 && !allow_empty {
+        let _told = tell(
+            err,
+            b"ERROR: ",
+            name,
+            b": it names no offset; with --allow-empty it may",
+        );
+        return false;
+    }
+    true
+}
+
+fn load_open(
+    fd: i32,
+    name: &[u8],
+    shown: &[u8],
+    allow_empty: bool,
+    err: i32,
+    words: &mut [u64],
+    table: &mut [u64],
+) -> bool
+    ensures { λ r. ⌜ (length (now (words .entry)) ≡ 1024 → length (now (table .entry)) ≡ 65536 → r ≡ true → Usable (now (shown .entry)) (now (words .exit))) ⌝ }
+{
+    let mut line = [0u8; 2052];
+    let mut report = [0u8; 16384];
+    let read = read_pieces(fd, shown, &mut line, words, table, &mut report);
+    if !read.ended {
+        tell_unread(name, err, read.error);
+        return false;
+    }
+    let open = read.reading;
+    let reading = finish(open, shown, &line, words, table, &mut report);
+    let told = tell_file(reading, name, allow_empty, err, &report);
+    if reading.bads != 0 {
+        return false;
+    }
+    told
+}
+
+// The offsets of a file as the members of a set of 65,536 bits; `-` is the standard input. False where the file may not be used: it was said why.
+pub fn load(name: &[u8], allow_empty: bool, err: i32, words: &mut [u64], table: &mut [u64]) -> bool
+    ensures { λ r. ⌜ (length (now (words .entry)) ≡ 1024 → length (now (table .entry)) ≡ 65536 → r ≡ true → Usable (shownName (now (name .entry))) (now (words .exit))) ⌝ }
+{
+    let mut space = [0u8; 64];
+    let end = append_name(&mut space, 0, name);
+    let shown = part(&space, 0, end);
+    if same(name, b"-") {
+        return load_open(0, name, shown, allow_empty, err, words, table);
+    }
+    let fd = os::open_read(name);
+    if fd < 0 {
+        let _told = tell_error(err, b"ERROR: ", name, b" cannot be opened: ", os::errno());
+        return false;
+    }
+    let usable = load_open(fd, name, shown, allow_empty, err, words, table);
+    if libc::close(fd) != 0 {
+        let _told = tell_error(err, b"ERROR: ", name, b" cannot be closed: ", os::errno());
+        return false;
+    }
+    usable
 }

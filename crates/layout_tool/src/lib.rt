@@ -1,9 +1,14 @@
-// The layout tool: compares the offsets that two files name, and lists sets of offsets. A program has no exit status, so the last line always says what happened.
+// The layout tool around its proved core: the arguments, and the calls of the operating system. Data goes to one descriptor, everything else to another.
+mod arguments;
 mod commands;
-mod comparison;
+mod comparing;
 mod files;
+mod help;
 mod listing;
 mod messages;
-mod texts;
+mod options;
+mod program;
+mod streams;
 
-pub use commands::run_tool;
+pub use commands::run;
+pub use program::run_program;

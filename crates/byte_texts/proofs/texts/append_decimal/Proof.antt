@@ -1,7 +1,6 @@
 -- `byte_texts::append_decimal` meets its contract. Assumes nothing.
 use mathlib.Core.Path.{ap, _∙_}
 use borrow.Author.Needs.{needs}
-use native.Mathlib.Omega.{arith}
 use Rattle.byte_texts.specs.Texts.{written}
 use Rattle.byte_texts.proofs.DecimalLaws.{decimal-is, digits-few}
 use Rattle.byte_texts.proofs.texts.append_decimal.Statement.{statement}

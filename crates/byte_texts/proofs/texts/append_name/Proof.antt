@@ -1,7 +1,7 @@
 -- `byte_texts::append_name` meets its contract. Assumes nothing.
-use mathlib.Core.Path.{sym, ap, _∙_}
+use mathlib.Core.Path.{ap, _∙_}
 use borrow.Author.Needs.{needs}
-use Rattle.byte_texts.specs.Texts.{written, shownName}
+use Rattle.byte_texts.specs.Texts.{written}
 use Rattle.byte_texts.proofs.TextLaws.{written-then}
 use Rattle.byte_texts.proofs.WriteLaws.{name-short, name-long}
 use Rattle.byte_texts.proofs.texts.append_name.Statement.{statement}

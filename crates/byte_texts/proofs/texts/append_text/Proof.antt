@@ -4,7 +4,7 @@ use borrow.Author.Needs.{needs}
 use native.Mathlib.Omega.{arith}
 use denote.Ref.{now}
 use lib.Seq.{length-take-le}
-use Rattle.byte_texts.specs.Texts.{written, shownText}
+use Rattle.byte_texts.specs.Texts.{written}
 use Rattle.byte_texts.proofs.TextLaws.{written-then}
 use Rattle.byte_texts.proofs.WriteLaws.{text-short, text-long}
 use Rattle.byte_texts.proofs.texts.append_text.Statement.{statement}

@@ -1,7 +1,6 @@
 -- `byte_texts::byte_as` meets its contract. Assumes nothing.
 use borrow.Author.Needs.{needs}
-use mathlib.Core.Path.{sym, ap, _∙_}
-use Rattle.byte_texts.specs.Texts.{byteAs, visible}
+use Rattle.byte_texts.specs.Texts.{byteAs}
 use Rattle.byte_texts.proofs.texts.byte_as.Statement.{statement}
 use Rattle.byte_texts.proofs.texts.byte_as.Tie as tie
 

@@ -1,0 +1,49 @@
+-- `layout_tool::files::load` meets its contract. Assumes nothing.
+use mathlib.Core.Bool.{false≢true}
+use native.Mathlib.Omega.{arith}
+use borrow.Author.Needs.{needs}
+use Rattle.layout_tool.proofs.LoadLaws.{renamed}
+use Rattle.layout_tool.proofs.NameLaws.{shown-is}
+use Rattle.layout_tool.proofs.files.load.Statement.{statement}
+use Rattle.layout_tool.proofs.files.load.Tie as tie
+
+returns : tie.Need-returns
+returns c words table e =
+    renamed (shown-is _ _ (omega arith) (c .before .before .before .before .before .before .before .before .before .before .before .before .before .append-name .ensures) (c .before .before .before .before .before .before .before .before .before .before .part .ensures)) (c .before .before .before .before .load-open .ensures words table e)
+
+returns-4 : tie.Need-returns-4
+returns-4 c words table e =
+    renamed (shown-is _ _ (omega arith) (c .before .before .before .before .before .before .before .before .before .before .before .before .before .before .before .before .before .append-name .ensures) (c .before .before .before .before .before .before .before .before .before .before .before .before .before .before .part .ensures)) (c .before .before .before .before .before .before .load-open2 .ensures words table e)
+
+pub load-spec : {M : Type 1} → statement M
+load-spec =
+    tie.close
+    (tie.spec
+    (λ c. search needs)
+    (λ c κs. search needs)
+    (λ c. search needs)
+    (λ c κs. search needs)
+    (λ c. search needs)
+    (λ c κs. search needs)
+    (λ c κs. search needs)
+    (λ c. search needs)
+    (λ c. search needs)
+    returns
+    (λ c κs. search needs)
+    (λ c. search needs)
+    (λ c. search needs)
+    (λ c κs. search needs)
+    (λ c κs. search needs)
+    (λ c words table e. absurd (false≢true e))
+    (λ c κs. search needs)
+    (λ c κs. search needs)
+    (λ c. search needs)
+    (λ c. search needs)
+    (λ c κs. search needs)
+    (λ c κs. search needs)
+    (λ c. search needs)
+    (λ c. search needs)
+    (λ c words table e. absurd (false≢true e))
+    (λ c. search needs)
+    (λ c. search needs)
+    returns-4)

@@ -1,0 +1,34 @@
+-- `layout_tool::files::load_open` meets its contract: a file that may be used is a whole text with no bad line. Assumes nothing.
+use mathlib.Core.Bool.{false≢true}
+use native.Mathlib.Omega.{arith}
+use borrow.Author.Needs.{needs}
+use Rattle.layout_tool.proofs.LoadLaws.{read-end, usable, not-not}
+use Rattle.layout_tool.proofs.files.load_open.Statement.{statement}
+use Rattle.layout_tool.proofs.files.load_open.Tie as tie
+
+returns-3 : tie.Need-returns-3
+returns-3 c words table e =
+    usable (read-end (c .before .before .before .before .before .before .before .before .before .before .before .before .before .before .before .before .before .before .before .before .before .before .before .read-pieces .ensures (omega arith) words table (not-not _ (c .before .before .before .before .before .before .before .before .before .before .before .before .before .before .before .if1 .left))) (c .before .before .before .before .before .before .before .before .before .finish .ensures)) (c .if2 .left)
+
+pub load-open-spec : {M : Type 1} → statement M
+load-open-spec =
+    tie.close
+    (tie.spec
+    (λ c. search needs)
+    (λ c. search needs)
+    (λ c κs. search needs)
+    (λ c κs. search needs)
+    (λ c. search needs)
+    (λ c. search needs)
+    (λ c words table e. absurd (false≢true e))
+    (λ c. search needs)
+    (λ c. search needs)
+    (λ c κs. search needs)
+    (λ c. search needs)
+    (λ c κs. search needs)
+    (λ c. search needs)
+    (λ c. search needs)
+    (λ c words table e. absurd (false≢true e))
+    (λ c. search needs)
+    (λ c. search needs)
+    returns-3)

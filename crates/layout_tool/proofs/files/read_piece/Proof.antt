@@ -1,0 +1,26 @@
+-- `layout_tool::files::read_piece` meets its contract: what was read is a piece more. Assumes nothing.
+use borrow.Author.Needs.{needs}
+use Rattle.layout_tool.proofs.files.read_piece.Statement.{statement}
+use Rattle.layout_tool.proofs.files.read_piece.Tie as tie
+
+returns : tie.Need-returns
+returns c = record { bytes = _; holds = c .before .before .before .before .before .before .before .before .take .ensures }
+
+pub read-piece-spec : {M : Type 1} → statement M
+read-piece-spec =
+    tie.close
+    (tie.spec
+    (λ c κs. search needs)
+    (λ c. search needs)
+    (λ c κs. search needs)
+    (λ c κs. search needs)
+    (λ c. search needs)
+    (λ c κs. search needs)
+    (λ c. search needs)
+    (λ c. search needs)
+    (λ c κs. search needs)
+    (λ c. search needs)
+    (λ c. search needs)
+    (λ c. search needs)
+    (λ c. search needs)
+    returns)

@@ -1,0 +1,90 @@
+use blocks::lesser;
+use check::same;
+ghost use Prim.Native.Nat.{_-_};
+ghost use mathlib.Core.Path.{_≡_};
+ghost use lib.ListN.{take, drop};
+
+// The words of the command line, each with a zero byte behind it. An option starts with `-` and is longer than that; none is behind `--`.
+pub struct Word {
+    pub end: usize,
+    pub next: usize,
+    pub option: bool,
+    pub ended: bool,
+}
+
+// The bytes start..end of a text, as far as it has them.
+pub fn part(text: &[u8], start: usize, end: usize) -> &[u8]
+    ensures { λ r. ⌜ now r ≡ take (end - start) (drop start (now (text .entry))) ⌝ }
+{
+    let to = lesser(end, text.len());
+    if to < start {
+        return &text[..0];
+    }
+    &text[start..to]
+}
+
+fn word_end(text: &[u8], start: usize) -> usize {
+    let mut k = start;
+    while k < text.len() {
+        if text[k] == 0 {
+            return k;
+        }
+        k += 1;
+    }
+    text.len()
+}
+
+fn is_option(word: &[u8]) -> bool {
+    if word.len() < 2 {
+        return false;
+    }
+    word[0] == b'-'
+}
+
+// The word at a place. `ended` says that `--` was before it.
+pub fn word_at(text: &[u8], start: usize, ended: bool) -> Word {
+    let end = word_end(text, start);
+    let word = part(text, start, end);
+    let next = if end < text.len() {
+        end + 1
+    } else {
+        text.len()
+    };
+    if ended {
+        return Word {
+            end,
+            next,
+            option: false,
+            ended: true,
+        };
+    }
+    Word {
+        end,
+        next,
+        option: is_option(word),
+        ended: same(word, b"--"),
+    }
+}
+
+// The word with number `wanted` among those that are no options, from 0; no bytes where there are fewer.
+pub fn operand(text: &[u8], wanted: usize) -> &[u8] {
+    let mut at = 0;
+    let mut ended = false;
+    let mut left = wanted;
+    let mut turns = text.len();
+    while turns > 0 {
+        turns -= 1;
+        if at < text.len() {
+            let word = word_at(text, at, ended);
+            if !word.option {
+                if left == 0 {
+                    return part(text, at, word.end);
+                }
+                left -= 1;
+            }
+            at = word.next;
+            ended = word.ended;
+        }
+    }
+    &text[..0]
+}

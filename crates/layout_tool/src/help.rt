@@ -1,0 +1,101 @@
+use crate::messages::incomplete;
+use crate::messages::tell;
+use crate::streams::write_whole;
+use check::same;
+
+// Writes a text. 2 where it could not be written whole.
+pub fn write_help(text: &[u8], out: i32, err: i32) -> usize {
+    if write_whole(out, text) {
+        return 0;
+    }
+    incomplete(err, os::errno());
+    2
+}
+
+pub fn general_help(out: i32, err: i32) -> usize {
+    write_help(
+        b"layout compare FIRMWARE TABLE..      whether each table names the offsets of the firmware, and which they do not share\n\
+layout list FILE                     the offsets of a file, rising\n\
+layout union A B                     the offsets of A, then those of B that are not in A\n\
+layout intersection A B              the offsets of A that are in B\n\
+layout difference A B                the offsets of A that are not in B\n\
+layout symmetric-difference A B      those of A not in B, then those of B not in A\n\
+layout help COMMAND                  more of a command\n\
+Options, in any place:\n\
+\x20 --count         the number of offsets alone; of a comparison the verdict alone\n\
+\x20 --sheet         each line with its place and how many there are, for a printed sheet\n\
+\x20 --quiet         nothing on the standard output: the status tells\n\
+\x20 --allow-empty   a file may name no offset\n\
+\x20 --version, --help, and -- before names that start with -\n\
+A file has one offset a line, 0 to 65535, decimal or hexadecimal with 0x. Blank lines, spaces, tabs and comments from # on are allowed; - is the standard input.\n\
+The status is 0 for the same or complete, 1 for different, 2 for trouble: then nothing that was written may be used.\n",
+        out,
+        err,
+    )
+}
+
+fn unknown(command: &[u8], err: i32) -> usize {
+    let _told = tell(
+        err,
+        b"ERROR: unknown command ",
+        command,
+        b"; layout help lists them",
+    );
+    2
+}
+
+// The help of one command, or of all where none is named.
+pub fn command_help(command: &[u8], named: bool, out: i32, err: i32) -> usize {
+    if !named {
+        return general_help(out, err);
+    }
+    if same(command, b"help") {
+        return general_help(out, err);
+    }
+    if same(command, b"compare") {
+        return write_help(
+            b"layout compare FIRMWARE TABLE..\n\
+Lists the offsets that only FIRMWARE names, then those that only the table names, and says `same` or `DIFFERENT` with the totals of both files.\n\
+With several tables each has its verdict, and the last line is over all of them. Status 0: all tables are the same; 1: one is different; 2: trouble with a file.\n",
+            out,
+            err,
+        );
+    }
+    if same(command, b"list") {
+        return write_help(
+            b"layout list FILE\n\
+Lists the offsets of FILE, rising, one a line. The last line is `# complete: N offsets`: a list without it is not whole, and the tool refuses a list that has another number of offsets.\n",
+            out,
+            err,
+        );
+    }
+    if same(command, b"union") {
+        return write_help(
+            b"layout union A B\nLists the offsets of A, rising, then those of B that are not in A, rising, and the last line of a list.\n",
+            out,
+            err,
+        );
+    }
+    if same(command, b"intersection") {
+        return write_help(
+            b"layout intersection A B\nLists the offsets of A that are in B, rising, and the last line of a list.\n",
+            out,
+            err,
+        );
+    }
+    if same(command, b"difference") {
+        return write_help(
+            b"layout difference A B\nLists the offsets of A that are not in B, rising, and the last line of a list.\n",
+            out,
+            err,
+        );
+    }
+    if same(command, b"symmetric-difference") {
+        return write_help(
+            b"layout symmetric-difference A B\nLists the offsets of A that are not in B, rising, then those of B that are not in A, rising, and the last line of a list.\n",
+            out,
+            err,
+        );
+    }
+    unknown(command, err)
+}

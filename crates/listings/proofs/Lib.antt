@@ -1,0 +1,8 @@
+pub mod WalkLaws
+pub mod SetLaws
+pub mod FillLaws
+pub mod PieceLaws
+pub mod SureLaws
+pub mod StageLaws
+pub mod PageLaws
+pub mod VerdictLaws

@@ -1,0 +1,4 @@
+pub mod Pages
+pub mod Fills
+pub mod Pieces
+pub mod Verdicts

@@ -1,0 +1,8 @@
+pub mod MessageLaws
+pub mod ReportLaws
+pub mod TableLaws
+pub mod HoldsLaws
+pub mod EntryLaws
+pub mod CutLaws
+pub mod TextLaws
+pub mod ReadLaws
