@@ -5,7 +5,7 @@ ghost use mathlib.Core.Path.{_≡_};
 ghost use lib.ListN.{take, drop};
 
 // The words of the command line, each with a zero byte behind it. An option starts with `-` and is longer than that; none is behind `--`.
-pub struct Word {
+pub(crate) struct Word {
     pub end: usize,
     pub next: usize,
     pub option: bool,
@@ -13,7 +13,7 @@ pub struct Word {
 }
 
 // The bytes start..end of a text, as far as it has them.
-pub fn part(text: &[u8], start: usize, end: usize) -> &[u8]
+pub(crate) fn part(text: &[u8], start: usize, end: usize) -> &[u8]
     ensures { λ r. ⌜ now r ≡ take (end - start) (drop start (now (text .entry))) ⌝ }
 {
     let to = lesser(end, text.len());
@@ -42,7 +42,7 @@ fn is_option(word: &[u8]) -> bool {
 }
 
 // The word at a place. `ended` says that `--` was before it.
-pub fn word_at(text: &[u8], start: usize, ended: bool) -> Word {
+pub(crate) fn word_at(text: &[u8], start: usize, ended: bool) -> Word {
     let end = word_end(text, start);
     let word = part(text, start, end);
     let next = if end < text.len() {
@@ -67,7 +67,7 @@ pub fn word_at(text: &[u8], start: usize, ended: bool) -> Word {
 }
 
 // The word with number `wanted` among those that are no options, from 0; no bytes where there are fewer.
-pub fn operand(text: &[u8], wanted: usize) -> &[u8] {
+pub(crate) fn operand(text: &[u8], wanted: usize) -> &[u8] {
     let mut at = 0;
     let mut ended = false;
     let mut left = wanted;

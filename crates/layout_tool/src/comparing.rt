@@ -127,7 +127,7 @@ fn write_tally(tally: Tally, out: i32, err: i32) -> bool {
 }
 
 // Whether the tables name the offsets of the firmware: 0 where all do, 1 where one does not, 2 at trouble.
-pub fn compare(arguments: &[u8], options: Options, out: i32, err: i32) -> usize {
+pub(crate) fn compare(arguments: &[u8], options: Options, out: i32, err: i32) -> usize {
     let mut words: [u64; 1024] = [0; 1024];
     let mut table: [u64; 65536] = [0; 65536];
     if !load(

@@ -177,7 +177,13 @@ fn load_open(
 }
 
 // The offsets of a file as the members of a set of 65,536 bits; `-` is the standard input. False where the file may not be used: it was said why.
-pub fn load(name: &[u8], allow_empty: bool, err: i32, words: &mut [u64], table: &mut [u64]) -> bool
+pub(crate) fn load(
+    name: &[u8],
+    allow_empty: bool,
+    err: i32,
+    words: &mut [u64],
+    table: &mut [u64],
+) -> bool
     ensures { λ r. ⌜ (length (now (words .entry)) ≡ 1024 → length (now (table .entry)) ≡ 65536 → r ≡ true → Usable (shownName (now (name .entry))) (now (words .exit))) ⌝ }
 {
     let mut space = [0u8; 64];

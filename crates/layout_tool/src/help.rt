@@ -4,7 +4,7 @@ use crate::streams::write_whole;
 use check::same;
 
 // Writes a text. 2 where it could not be written whole.
-pub fn write_help(text: &[u8], out: i32, err: i32) -> usize {
+pub(crate) fn write_help(text: &[u8], out: i32, err: i32) -> usize {
     if write_whole(out, text) {
         return 0;
     }
@@ -12,7 +12,7 @@ pub fn write_help(text: &[u8], out: i32, err: i32) -> usize {
     2
 }
 
-pub fn general_help(out: i32, err: i32) -> usize {
+pub(crate) fn general_help(out: i32, err: i32) -> usize {
     write_help(
         b"layout compare FIRMWARE TABLE..      whether each table names the offsets of the firmware, and which they do not share\n\
 layout list FILE                     the offsets of a file, rising\n\
@@ -45,7 +45,7 @@ fn unknown(command: &[u8], err: i32) -> usize {
 }
 
 // The help of one command, or of all where none is named.
-pub fn command_help(command: &[u8], named: bool, out: i32, err: i32) -> usize {
+pub(crate) fn command_help(command: &[u8], named: bool, out: i32, err: i32) -> usize {
     if !named {
         return general_help(out, err);
     }

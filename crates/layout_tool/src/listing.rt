@@ -18,7 +18,7 @@ fn is_over(stage: Stage) -> bool {
 }
 
 // Writes what the job has to say of two sets, piece by piece. False where not all of it was written: it was said why.
-pub fn write_pieces(
+pub(crate) fn write_pieces(
     job: Job,
     words: &[u64],
     other: &[u64],
@@ -52,7 +52,7 @@ pub fn write_pieces(
 }
 
 // The same with the names as they are given, and nothing at all where `quiet`.
-pub fn write_job(
+pub(crate) fn write_job(
     job: Job,
     quiet: bool,
     words: &[u64],

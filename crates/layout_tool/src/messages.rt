@@ -5,7 +5,7 @@ use byte_texts::append_decimal;
 use byte_texts::append_name;
 
 // One line: a text, a name as it is shown, and a text. False where it could not be written.
-pub fn tell(err: i32, before: &[u8], name: &[u8], after: &[u8]) -> bool {
+pub(crate) fn tell(err: i32, before: &[u8], name: &[u8], after: &[u8]) -> bool {
     let mut line = [0u8; 256];
     let named = append(&mut line, 0, before);
     let said = append_name(&mut line, named, name);
@@ -15,7 +15,7 @@ pub fn tell(err: i32, before: &[u8], name: &[u8], after: &[u8]) -> bool {
 }
 
 // One line: a text, a name, a number and a text.
-pub fn tell_number(err: i32, before: &[u8], name: &[u8], number: u64, after: &[u8]) -> bool {
+pub(crate) fn tell_number(err: i32, before: &[u8], name: &[u8], number: u64, after: &[u8]) -> bool {
     let mut line = [0u8; 256];
     let named = append(&mut line, 0, before);
     let said = append_name(&mut line, named, name);
@@ -68,7 +68,7 @@ fn append_reason(out: &mut [u8], at: usize, error: i32) -> usize {
 }
 
 // One line: a text, a name, and why a call failed.
-pub fn tell_error(err: i32, before: &[u8], name: &[u8], after: &[u8], error: i32) -> bool {
+pub(crate) fn tell_error(err: i32, before: &[u8], name: &[u8], after: &[u8], error: i32) -> bool {
     let mut line = [0u8; 256];
     let named = append(&mut line, 0, before);
     let said = append_name(&mut line, named, name);
@@ -79,7 +79,7 @@ pub fn tell_error(err: i32, before: &[u8], name: &[u8], after: &[u8], error: i32
 }
 
 // After a write that failed nothing more is written but this.
-pub fn incomplete(err: i32, error: i32) {
+pub(crate) fn incomplete(err: i32, error: i32) {
     let _told = tell_error(
         err,
         b"INCOMPLETE: not all was written to the standard output",

@@ -3,7 +3,7 @@ use crate::arguments::word_at;
 use check::same;
 
 // What the options ask for, how many words are no options, and how many of those are `-`.
-pub struct Options {
+pub(crate) struct Options {
     pub count: bool,
     pub quiet: bool,
     pub sheet: bool,
@@ -25,7 +25,7 @@ fn is_known(option: &[u8]) -> bool {
 }
 
 // The first option that is none of these; no bytes where all are.
-pub fn unknown_option(text: &[u8]) -> &[u8] {
+pub(crate) fn unknown_option(text: &[u8]) -> &[u8] {
     let mut at = 0;
     let mut ended = false;
     let mut turns = text.len();
@@ -74,7 +74,7 @@ fn has_option(text: &[u8], option: &[u8]) -> bool {
 }
 
 // The options of a command line, in any place.
-pub fn options_of(text: &[u8]) -> Options {
+pub(crate) fn options_of(text: &[u8]) -> Options {
     Options {
         count: has_option(text, b"--count"),
         quiet: has_option(text, b"--quiet"),
