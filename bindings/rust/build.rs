@@ -1,7 +1,7 @@
 //! Finds the archive of the engine and tells cargo to link it.
 //!
 //! In this order: the folder that FBS_LIB_DIR names; target/staticlib of the repository; and where neither has it,
-//! `rt staticlib exports` is run in the repository's root, which proves the crate and writes it there.
+//! `bin/archive` of the repository is run, which proves the crates of C entry points and writes it there.
 
 use std::env;
 use std::path::{Path, PathBuf};
@@ -32,7 +32,7 @@ fn archive_folder() -> PathBuf {
         build_archive(&root);
     }
     if !folder.join(ARCHIVE).is_file() {
-        stop("`rt staticlib exports` wrote no archive");
+        stop("bin/archive wrote no archive");
     }
     folder
 }
@@ -44,12 +44,12 @@ fn repository() -> PathBuf {
 }
 
 fn build_archive(root: &Path) {
-    match Command::new("rt").args(["staticlib", "exports"]).current_dir(root).status() {
+    match Command::new(root.join("bin").join("archive")).status() {
         Ok(status) if status.success() => {}
-        Ok(status) => stop(&format!("`rt staticlib exports` failed with {status}")),
-        Err(error) => stop(&format!(
-            "no {ARCHIVE} in target/staticlib, and `rt staticlib exports` could not be run ({error}); set FBS_LIB_DIR to the archive's folder"
-        )),
+        Ok(status) => stop(&format!("bin/archive failed with {status}")),
+        Err(error) => {
+            stop(&format!("no {ARCHIVE} in target/staticlib, and bin/archive could not be run ({error}); set FBS_LIB_DIR to the archive's folder"))
+        }
     }
 }
 

@@ -1,4 +1,4 @@
-//! The C interface as declared in crates/exports/fbs.h: the raw functions and records. tests/header.rs compares the two files.
+//! The C interface as declared in bindings/c/fbs.h: the raw functions and records. tests/header.rs compares the two files.
 //!
 //! A slice is a pointer and a number of words. `number` is 0 for an accepted call and otherwise the number of the first question that was
 //! answered no. Every function asks its questions itself, so the only duties of a caller are those of the pointers: each is valid for as many

@@ -1,8 +1,8 @@
-//! src/ffi.rs declares what crates/exports/fbs.h does: the same functions with the same arguments, and the same records with the same fields.
+//! src/ffi.rs declares what bindings/c/fbs.h does: the same functions with the same arguments, and the same records with the same fields.
 
 use std::collections::BTreeSet;
 
-const HEADER: &str = include_str!("../../../crates/exports/fbs.h");
+const HEADER: &str = include_str!("../../c/fbs.h");
 const BINDINGS: &str = include_str!("../src/ffi.rs");
 
 /// Each declaration of the header, in Rust's words.

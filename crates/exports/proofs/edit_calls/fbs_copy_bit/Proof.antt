@@ -1,7 +1,0 @@
--- `exports::edit_calls::fbs_copy_bit` meets its contract. Assumes nothing.
-use borrow.Author.Needs.{needs}
-use Rattle.exports.proofs.edit_calls.fbs_copy_bit.Statement.{statement}
-use Rattle.exports.proofs.edit_calls.fbs_copy_bit.Tie as tie
-
-pub fbs-copy-bit-spec : {M : Type 1} → statement M
-fbs-copy-bit-spec = tie.close (tie.spec (λ c κs. search needs) (λ c. search needs) (λ c. c .before .before .copy-bit .ensures))
