@@ -158,8 +158,14 @@ fn load_open(
     words: &mut [u64],
     table: &mut [u64],
 ) -> bool
-    ensures { λ r. ⌜ (length (now (words .entry)) ≡ 1024 → length (now (table .entry)) ≡ 65536 → r ≡ true → Usable (now (shown .entry)) (now (words .exit))) ⌝ }
+    ensures { λ r. ⌜ (r ≡ true → Usable (now (shown .entry)) (now (words .exit))) ⌝ }
 {
+    if words.len() != 1024 {
+        return false;
+    }
+    if table.len() != 65536 {
+        return false;
+    }
     let mut line = [0u8; 2052];
     let mut report = [0u8; 16384];
     let read = read_pieces(fd, shown, &mut line, words, table, &mut report);
@@ -184,7 +190,7 @@ pub(crate) fn load(
     words: &mut [u64],
     table: &mut [u64],
 ) -> bool
-    ensures { λ r. ⌜ (length (now (words .entry)) ≡ 1024 → length (now (table .entry)) ≡ 65536 → r ≡ true → Usable (shownName (now (name .entry))) (now (words .exit))) ⌝ }
+    ensures { λ r. ⌜ (r ≡ true → Usable (shownName (now (name .entry))) (now (words .exit))) ⌝ }
 {
     let mut space = [0u8; 64];
     let end = append_name(&mut space, 0, name);

@@ -29,7 +29,12 @@ fn gather_word(arguments: &mut [u8], at: usize, k: usize) -> usize {
 
 fn run_arguments(arguments: &[u8], end: usize) -> usize {
     if end == arguments.len() {
-        let _told = tell(2, b"ERROR: the command line is too long", b"", b"");
+        let _told = tell(
+            2,
+            b"ERROR: the command line has more than 65535 bytes, or a word of more than 4096",
+            b"",
+            b"",
+        );
         return 2;
     }
     run(part(arguments, 0, end), 1, 2)

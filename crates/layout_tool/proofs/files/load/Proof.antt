@@ -8,12 +8,12 @@ use Rattle.layout_tool.proofs.files.load.Statement.{statement}
 use Rattle.layout_tool.proofs.files.load.Tie as tie
 
 returns : tie.Need-returns
-returns c words table e =
-    renamed (shown-is _ _ (omega arith) (c .before .before .before .before .before .before .before .before .before .before .before .before .before .append-name .ensures) (c .before .before .before .before .before .before .before .before .before .before .part .ensures)) (c .before .before .before .before .load-open .ensures words table e)
+returns c e =
+    renamed (shown-is _ _ (omega arith) (c .before .before .before .before .before .before .before .before .before .before .before .before .before .append-name .ensures) (c .before .before .before .before .before .before .before .before .before .before .part .ensures)) (c .before .before .before .before .load-open .ensures e)
 
 returns-4 : tie.Need-returns-4
-returns-4 c words table e =
-    renamed (shown-is _ _ (omega arith) (c .before .before .before .before .before .before .before .before .before .before .before .before .before .before .before .before .before .append-name .ensures) (c .before .before .before .before .before .before .before .before .before .before .before .before .before .before .part .ensures)) (c .before .before .before .before .before .before .load-open2 .ensures words table e)
+returns-4 c e =
+    renamed (shown-is _ _ (omega arith) (c .before .before .before .before .before .before .before .before .before .before .before .before .before .before .before .before .before .append-name .ensures) (c .before .before .before .before .before .before .before .before .before .before .before .before .before .before .part .ensures)) (c .before .before .before .before .before .before .load-open2 .ensures e)
 
 pub load-spec : {M : Type 1} → statement M
 load-spec =
@@ -34,7 +34,7 @@ load-spec =
     (λ c. search needs)
     (λ c κs. search needs)
     (λ c κs. search needs)
-    (λ c words table e. absurd (false≢true e))
+    (λ c e. absurd (false≢true e))
     (λ c κs. search needs)
     (λ c κs. search needs)
     (λ c. search needs)
@@ -43,7 +43,7 @@ load-spec =
     (λ c κs. search needs)
     (λ c. search needs)
     (λ c. search needs)
-    (λ c words table e. absurd (false≢true e))
+    (λ c e. absurd (false≢true e))
     (λ c. search needs)
     (λ c. search needs)
     returns-4)

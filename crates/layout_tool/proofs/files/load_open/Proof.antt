@@ -6,21 +6,25 @@ use Rattle.layout_tool.proofs.LoadLaws.{read-end, usable, not-not}
 use Rattle.layout_tool.proofs.files.load_open.Statement.{statement}
 use Rattle.layout_tool.proofs.files.load_open.Tie as tie
 
-returns-3 : tie.Need-returns-3
-returns-3 c words table e =
-    usable (read-end (c .before .before .before .before .before .before .before .before .before .before .before .before .before .before .before .before .before .before .before .before .before .before .before .read-pieces .ensures (omega arith) words table (not-not _ (c .before .before .before .before .before .before .before .before .before .before .before .before .before .before .before .if1 .left))) (c .before .before .before .before .before .before .before .before .before .finish .ensures)) (c .if2 .left)
+returns-5 : tie.Need-returns-5
+returns-5 c e =
+    usable
+    (read-end (c .before .before .before .before .before .before .before .before .before .before .before .before .before .before .before .before .before .before .before .before .before .before .before .read-pieces .ensures (omega arith) (c .before .before .before .before .before .before .before .before .before .before .before .before .before .before .before .before .before .before .before .before .before .before .before .before .before .before .before .before .before .if1 .left) (c .before .before .before .before .before .before .before .before .before .before .before .before .before .before .before .before .before .before .before .before .before .before .before .before .before .before .before .before .if2 .left) (not-not _ (c .before .before .before .before .before .before .before .before .before .before .before .before .before .before .before .if3 .left))) (c .before .before .before .before .before .before .before .before .before .finish .ensures))
+    (c .if4 .left)
 
 pub load-open-spec : {M : Type 1} → statement M
 load-open-spec =
     tie.close
     (tie.spec
+    (λ c e. absurd (false≢true e))
+    (λ c e. absurd (false≢true e))
     (λ c. search needs)
     (λ c. search needs)
     (λ c κs. search needs)
     (λ c κs. search needs)
     (λ c. search needs)
     (λ c. search needs)
-    (λ c words table e. absurd (false≢true e))
+    (λ c e. absurd (false≢true e))
     (λ c. search needs)
     (λ c. search needs)
     (λ c κs. search needs)
@@ -28,7 +32,7 @@ load-open-spec =
     (λ c κs. search needs)
     (λ c. search needs)
     (λ c. search needs)
-    (λ c words table e. absurd (false≢true e))
+    (λ c e. absurd (false≢true e))
     (λ c. search needs)
     (λ c. search needs)
-    returns-3)
+    returns-5)
