@@ -66,6 +66,7 @@ FbsEdited fbs_set_range(FbsSet set, uint64_t *words, size_t size, size_t start, 
 FbsEdited fbs_clear(FbsSet set, uint64_t *words, size_t size);
 FbsEdited fbs_grow(FbsSet set, uint64_t *words, size_t size, size_t bits);
 FbsEdited fbs_grow_and_insert(FbsSet set, uint64_t *words, size_t size, size_t bit);
+FbsEdited fbs_insert_all(FbsSet set, uint64_t *words, size_t size, const uint64_t *positions, size_t positions_size);
 
 /* tests and counts */
 FbsTold fbs_contains(FbsSet set, const uint64_t *words, size_t size, size_t bit);
@@ -121,10 +122,10 @@ FbsNextManyPair fbs_symmetric_difference_next_many(FbsSet a, const uint64_t *wor
 /* a step of the walker that keeps the set's words: back is the end */
 FbsStepped fbs_walker_step(FbsSet set, const uint64_t *words, size_t size, FbsPart part, bool back);
 
-/* a whole history: two fresh sets, calls of five numbers each, a walk (0 ones, 1 intersection, 2 difference, 3 union, 4 symmetric difference; any
+/* a whole history: two fresh sets, calls of five numbers each, positions that the calls of insert_all (17) name by start and end, a walk (0 ones, 1 intersection, 2 difference, 3 union, 4 symmetric difference; any
    other is refused with 99), steps (0 front, else back), an answer for each step in out (the position, or 2^64 - 1 for none), and the walk's count */
 FbsRan fbs_run_history(size_t a_bits, uint64_t *words, size_t size, size_t b_bits, uint64_t *other, size_t other_size,
-                       const uint64_t *calls, size_t calls_size, uint64_t walk, const uint64_t *steps, size_t steps_size,
+                       const uint64_t *calls, size_t calls_size, const uint64_t *positions, size_t positions_size, uint64_t walk, const uint64_t *steps, size_t steps_size,
                        uint64_t *out, size_t out_size);
 
 #ifdef __cplusplus

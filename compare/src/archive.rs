@@ -278,6 +278,8 @@ impl Engine for Archive {
                 history.b_words.len(),
                 history.calls.as_ptr(),
                 history.calls.len(),
+                std::ptr::NonNull::dangling().as_ptr(),
+                0,
                 history.walk,
                 history.steps.as_ptr(),
                 history.steps.len(),

@@ -190,7 +190,7 @@ impl Engine for Bindings {
         };
         let calls: Vec<[u64; 5]> = history.calls.chunks_exact(5).map(|five| [five[0], five[1], five[2], five[3], five[4]]).collect();
         let (a, b, out) = (&mut history.a_words, &mut history.b_words, &mut history.out);
-        let ran = run_history(history.a_bits, a, history.b_bits, b, &calls, walk, &history.steps, out);
+        let ran = run_history(history.a_bits, a, history.b_bits, b, &calls, &[], walk, &history.steps, out);
         let (a_length, b_length, count) = ran.map_or((0, 0, 0), |ran| (ran.a_length, ran.b_length, ran.count));
         Some(Ran { number: number(&ran), a_length, b_length, count })
     }

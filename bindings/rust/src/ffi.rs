@@ -188,6 +188,7 @@ extern "C" {
     pub fn fbs_clear(set: FbsSet, words: *mut u64, size: usize) -> FbsEdited;
     pub fn fbs_grow(set: FbsSet, words: *mut u64, size: usize, bits: usize) -> FbsEdited;
     pub fn fbs_grow_and_insert(set: FbsSet, words: *mut u64, size: usize, bit: usize) -> FbsEdited;
+    pub fn fbs_insert_all(set: FbsSet, words: *mut u64, size: usize, positions: *const u64, positions_size: usize) -> FbsEdited;
     // tests and counts
     pub fn fbs_contains(set: FbsSet, words: *const u64, size: usize, bit: usize) -> FbsTold;
     pub fn fbs_contains_all_in_range(set: FbsSet, words: *const u64, size: usize, start: usize, end: usize) -> FbsTold;
@@ -376,7 +377,7 @@ extern "C" {
     ) -> FbsNextManyPair;
     // a step of the walker that keeps the set's words: back is the end
     pub fn fbs_walker_step(set: FbsSet, words: *const u64, size: usize, part: FbsPart, back: bool) -> FbsStepped;
-    // a whole history: two fresh sets, calls of five numbers each, a walk (0 ones, 1 intersection, 2 difference, 3 union, 4 symmetric difference; any other is refused with 99), steps (0 front, else back), an answer for each step in out (the position, or 2^64 - 1 for none), and the walk's count
+    // a whole history: two fresh sets, calls of five numbers each, positions that the calls of insert_all (17) name by start and end, a walk (0 ones, 1 intersection, 2 difference, 3 union, 4 symmetric difference; any other is refused with 99), steps (0 front, else back), an answer for each step in out (the position, or 2^64 - 1 for none), and the walk's count
     pub fn fbs_run_history(
         a_bits: usize,
         words: *mut u64,
@@ -386,6 +387,8 @@ extern "C" {
         other_size: usize,
         calls: *const u64,
         calls_size: usize,
+        positions: *const u64,
+        positions_size: usize,
         walk: u64,
         steps: *const u64,
         steps_size: usize,

@@ -35,9 +35,9 @@ pub struct Ran {
 
 /// Makes two fresh sets, makes the calls one after the other, takes the steps of the walk, and counts.
 ///
-/// A call is five numbers: the set (0 or 1), the call (0 to 16, in the order `insert`, `remove`, `put`, `toggle`, `set`, `copy_bit`, `insert_range`, `remove_range`,
-/// `toggle_range`, `set_range`, `clear`, `grow`, `grow_and_insert`, `union_with`, `intersect_with`, `difference_with`, `symmetric_difference_with`), two numbers, and a yes or
-/// no (0 is no). A refused call does nothing. A step is 0 for the front, and any other number for the back; its answer in `out` is the position, or [`NONE`].
+/// A call is five numbers: the set (0 or 1), the call (0 to 17, in the order `insert`, `remove`, `put`, `toggle`, `set`, `copy_bit`, `insert_range`, `remove_range`,
+/// `toggle_range`, `set_range`, `clear`, `grow`, `grow_and_insert`, `union_with`, `intersect_with`, `difference_with`, `symmetric_difference_with`, `insert_all`), two numbers, and a yes or
+/// no (0 is no). A call of `insert_all` marks the positions x..y of `positions`, where those are. A refused call does nothing. A step is 0 for the front, and any other number for the back; its answer in `out` is the position, or [`NONE`].
 ///
 /// # Errors
 /// [`Refusal::NewLength`] where a length is above 65,536, [`Refusal::Room`] where a buffer lacks the words for a set or for the answers. Nothing is
@@ -50,9 +50,12 @@ pub struct Ran {
 /// let (mut words, mut other, mut out) = ([7; 2], [7; 1], [0; 4]);
 /// // A inserts 1 and 70, B inserts 0..2.
 /// let calls = [[0, 0, 1, 0, 0], [0, 0, 70, 0, 0], [1, 6, 0, 2, 0]];
-/// let ran = run_history(71, &mut words, 2, &mut other, &calls, Walk::Union, &[0, 1, 0, 0], &mut out)?;
+/// let ran = run_history(71, &mut words, 2, &mut other, &calls, &[], Walk::Union, &[0, 1, 0, 0], &mut out)?;
 /// assert_eq!((ran.a_length, ran.b_length, ran.count), (71, 2, 3));
 /// assert_eq!(out, [1, 0, 70, NONE]);
+/// // A marks the positions 1..3 of the lent list in one call.
+/// let ran = run_history(71, &mut words, 2, &mut other, &[[0, 17, 1, 3, 0]], &[5, 9, 70, 9], Walk::Ones, &[0, 0, 0], &mut out)?;
+/// assert_eq!((ran.count, &out[..3]), (2, &[9, 70, NONE][..]));
 /// # Ok::<(), Refusal>(())
 /// ```
 #[allow(clippy::too_many_arguments)]
@@ -62,6 +65,7 @@ pub fn run_history(
     b_bits: usize,
     other: &mut [u64],
     calls: &[[u64; 5]],
+    positions: &[u64],
     walk: Walk,
     steps: &[u64],
     out: &mut [u64],
@@ -78,6 +82,8 @@ pub fn run_history(
             other.len(),
             calls.as_ptr(),
             calls.len(),
+            positions.as_ptr(),
+            positions.len(),
             walk as u64,
             steps.as_ptr(),
             steps.len(),

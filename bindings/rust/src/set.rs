@@ -152,6 +152,26 @@ impl<'w> FixedBitSet<'w> {
         self.edited(|set, words, size| unsafe { ffi::fbs_copy_bit(set, words, size, from, to) })
     }
 
+    /// Makes each position of a list a member, or none where one is not below the length. A repeat marks once.
+    ///
+    /// # Errors
+    /// [`Refusal::Position`] where a position is not below the length. Nothing is marked then.
+    ///
+    /// ```
+    /// use lent_bit_sets::{FixedBitSet, Refusal};
+    /// let mut words = [0; 2];
+    /// let mut set = FixedBitSet::with_capacity(70, &mut words)?;
+    /// set.insert_all(&[3, 69, 3])?;
+    /// assert_eq!(set.as_slice(), [8, 0x20]);
+    /// assert_eq!(set.insert_all(&[4, 70]), Err(Refusal::Position));
+    /// assert_eq!(set.as_slice(), [8, 0x20]);
+    /// # Ok::<(), Refusal>(())
+    /// ```
+    #[inline]
+    pub fn insert_all(&mut self, positions: &[u64]) -> Result<(), Refusal> {
+        self.edited(|set, words, size| unsafe { ffi::fbs_insert_all(set, words, size, positions.as_ptr(), positions.len()) })
+    }
+
     /// Makes each position of the range a member.
     ///
     /// # Errors

@@ -116,10 +116,10 @@ fn words_and_masks() {
 #[test]
 fn a_refused_history() {
     let mut out = [5];
-    let ran = run_history(65, &mut [0], 0, &mut [], &[], Walk::Ones, &[0], &mut out);
+    let ran = run_history(65, &mut [0], 0, &mut [], &[], &[], Walk::Ones, &[0], &mut out);
     assert_eq!((ran, out), (Err(Refusal::Room), [5]));
-    let ran = run_history(0, &mut [], 65_537, &mut [], &[], Walk::Ones, &[], &mut []);
+    let ran = run_history(0, &mut [], 65_537, &mut [], &[], &[], Walk::Ones, &[], &mut []);
     assert_eq!(ran, Err(Refusal::NewLength));
-    let ran = run_history(1, &mut [1], 0, &mut [], &[], Walk::Difference, &[1], &mut out).unwrap();
+    let ran = run_history(1, &mut [1], 0, &mut [], &[], &[], Walk::Difference, &[1], &mut out).unwrap();
     assert_eq!((ran.count, out), (0, [NONE]));
 }

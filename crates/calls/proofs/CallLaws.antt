@@ -9,7 +9,7 @@ use Rattle.sets.specs.Questions.{first, questions, bothQuestions}
 use Rattle.sets.specs.declared.fixed_bit_set.FixedBitSet.{FixedBitSet}
 use Rattle.sets.proofs.QuestionLaws.{first-yes, Valid, valid-yes}
 use Rattle.sets.proofs.ReadLaws.{write-read}
-use Rattle.calls.specs.Calls.{Call, Insert, Remove, Put, Toggle, Set, CopyBit, InsertRange, RemoveRange, ToggleRange, SetRange, Clear, Grow, GrowAndInsert, UnionWith, IntersectWith, DifferenceWith, SymmetricDifferenceWith, refusal, done, leaves}
+use Rattle.calls.specs.Calls.{Call, Insert, Remove, Put, Toggle, Set, CopyBit, InsertRange, RemoveRange, ToggleRange, SetRange, Clear, Grow, GrowAndInsert, UnionWith, IntersectWith, DifferenceWith, SymmetricDifferenceWith, InsertAll, refusal, done, leaves}
 use Rattle.calls.specs.Rules.{callRule}
 
 module _ (set : FixedBitSet) (ws : List ℕ) (o : FixedBitSet) (vs : List ℕ) (one : questions set ws ≡ 0) (two : questions o vs ≡ 0) where
@@ -43,6 +43,7 @@ module _ (set : FixedBitSet) (ws : List ℕ) (o : FixedBitSet) (vs : List ℕ) (
   rule-by IntersectWith = ap (λ (m : ℕ). edited m set ws (done IntersectWith (read ws set) (read vs o))) both
   rule-by DifferenceWith = ap (λ (m : ℕ). edited m set ws (done DifferenceWith (read ws set) (read vs o))) both
   rule-by SymmetricDifferenceWith = past both _ _
+  rule-by (InsertAll ps) = past one _ _
 
 -- the set and the words of an edit, refused or accepted
 pub record Holds (x : Outcome) (ws : List ℕ) (s : Members) : Type 0 where

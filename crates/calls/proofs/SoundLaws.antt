@@ -13,17 +13,18 @@ use Rattle.sets.proofs.RangeQuestionLaws.{within}
 use Rattle.masks.proofs.RangeLaws.{covers-above}
 use Rattle.sets.specs.Members.{Members, wordsOf, read, setOf, changed}
 use Rattle.sets.specs.Outcomes.{given}
-use Rattle.sets.specs.Questions.{positionQuestion, newQuestions, roomQuestion, rangeQuestion}
+use Rattle.sets.specs.Questions.{positionQuestion, positionsQuestion, newQuestions, roomQuestion, rangeQuestion}
 use Rattle.sets.specs.declared.fixed_bit_set.FixedBitSet.{FixedBitSet}
 use Rattle.sets.proofs.QuestionLaws.{Valid, position-yes, position-below, room, room-only}
 use Rattle.sets.proofs.ReadLaws.{read-clipped}
 use Rattle.sets.proofs.WriteLaws.{Clipped}
-use Rattle.edits.specs.Edits.{grown}
+use Rattle.edits.specs.Edits.{grown, isIn}
+use Rattle.edits.proofs.ListChanges.{not-listed}
 use Rattle.two_sets.specs.Operations.{joined}
 use Rattle.two_sets.specs.declared.operation.Operation.{Operation}
 use Rattle.two_sets.specs.declared.operation.Operation.the-variants.{Union, Intersection, Difference, SymmetricDifference}
 use Rattle.two_sets.specs.Combined.{combined}
-use Rattle.calls.specs.Calls.{Call, Insert, Remove, Put, Toggle, Set, CopyBit, InsertRange, RemoveRange, ToggleRange, SetRange, Clear, Grow, GrowAndInsert, UnionWith, IntersectWith, DifferenceWith, SymmetricDifferenceWith, refusal, done, leaves}
+use Rattle.calls.specs.Calls.{Call, Insert, Remove, Put, Toggle, Set, CopyBit, InsertRange, RemoveRange, ToggleRange, SetRange, Clear, Grow, GrowAndInsert, UnionWith, IntersectWith, DifferenceWith, SymmetricDifferenceWith, InsertAll, refusal, done, leaves}
 
 -- a set in a buffer of `size` words
 pub record Sound (size : ℕ) (s : Members) : Type 0 where
@@ -59,6 +60,9 @@ module _ (size : ℕ) (s : Members) (h : Sound size s) where
   at-position f bit e =
       let b = position-below (setOf s) bit e in
       changed-kept (eqb bit) f (λ p l. ap (λ (t : Bool). cond t (f false) false) (ne-eqb bit p (λ q. omega arith)))
+
+  over-list : (f : Bool → Bool) (ps : List ℕ) → positionsQuestion (setOf s) ps ≡ 0 → Kept size s (changed (isIn ps) f s)
+  over-list f ps e = changed-kept (isIn ps) f (λ p l. ap (λ (t : Bool). cond t (f false) false) (not-listed (setOf s) ps p e l))
 
   over-range : (f : Bool → Bool) (start end : ℕ) → rangeQuestion start end (s .len) ≡ 0 → Kept size s (changed (covers start end) f s)
   over-range f start end e =
@@ -130,6 +134,7 @@ done-kept UnionWith size s o h co small e = growing-kept size s h o co small Uni
 done-kept IntersectWith size s o h co small e = keeping-kept size s h o co small Intersection (λ b. refl)
 done-kept DifferenceWith size s o h co small e = keeping-kept size s h o co small Difference (λ b. refl)
 done-kept SymmetricDifferenceWith size s o h co small e = growing-kept size s h o co small SymmetricDifference neither e
+done-kept (InsertAll ps) size s o h co small e = over-list size s h _ ps e
 
 given-kept : (size : ℕ) (s t : Members) (n : ℕ) → Kept size s s → (n ≡ 0 → Kept size s t) → Kept size s (given n (λ m. s) t)
 unfolding given

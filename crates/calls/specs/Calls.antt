@@ -1,13 +1,14 @@
 -- The calls of a history: which are refused, and what an accepted one leaves, position by position.
 use mathlib.Core.Bool.{Bool}
+use mathlib.Core.List.{List}
 use Prim.Native.Nat.{ℕ, _+_, max}
 use Rattle.sets.specs.Members.{Members, setOf}
 use Rattle.sets.specs.Outcomes.{given}
-use Rattle.sets.specs.Questions.{positionQuestion, newQuestions, roomQuestion, rangeQuestion}
-use Rattle.edits.specs.Edits.{inserted, removed, toggled, assigned, copied, insertedRange, removedRange, toggledRange, assignedRange, cleared, grown, grownAndInserted}
+use Rattle.sets.specs.Questions.{positionQuestion, positionsQuestion, newQuestions, roomQuestion, rangeQuestion}
+use Rattle.edits.specs.Edits.{inserted, removed, toggled, assigned, copied, insertedAll, insertedRange, removedRange, toggledRange, assignedRange, cleared, grown, grownAndInserted}
 use Rattle.two_sets.specs.Combined.{unioned, symmetricallyDiffered, intersected, differed}
 
--- the edits from `insert` to `grow_and_insert` and the four `.._with` calls
+-- the edits from `insert` to `grow_and_insert`, the four `.._with` calls and `insert_all`
 pub data Call : Type 0 where
   Insert : ℕ → Call
   Remove : ℕ → Call
@@ -26,6 +27,7 @@ pub data Call : Type 0 where
   IntersectWith : Call
   DifferenceWith : Call
   SymmetricDifferenceWith : Call
+  InsertAll : List ℕ → Call
 
 -- the number of a call on s with o read, where the buffer of s has `size` words; questions 1 to 3 never say no here
 abbrev pub refusal : Call → ℕ → Members → Members → ℕ
@@ -46,6 +48,7 @@ refusal UnionWith size s o = roomQuestion (max (s .len) (o .len)) size
 refusal IntersectWith size s o = 0
 refusal DifferenceWith size s o = 0
 refusal SymmetricDifferenceWith size s o = roomQuestion (max (s .len) (o .len)) size
+refusal (InsertAll ps) size s o = positionsQuestion (setOf s) ps
 
 -- what an accepted call leaves
 abbrev pub done : Call → Members → Members → Members
@@ -66,6 +69,7 @@ done UnionWith s o = unioned s o
 done IntersectWith s o = intersected s o
 done DifferenceWith s o = differed s o
 done SymmetricDifferenceWith s o = symmetricallyDiffered s o
+done (InsertAll ps) s o = insertedAll ps s
 
 -- a refused call does nothing
 unfoldable pub leaves : Call → ℕ → Members → Members → Members

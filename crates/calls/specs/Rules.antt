@@ -8,10 +8,10 @@ use Rattle.sets.specs.Outcomes.{Outcome, given}
 use Rattle.sets.specs.declared.fixed_bit_set.FixedBitSet.{FixedBitSet}
 use Rattle.edits.specs.Rules.{insertRule, removeRule, toggleRule, setRule, copyBitRule, putRule}
 use Rattle.edits.specs.Rules.{insertRangeRule, removeRangeRule, toggleRangeRule, setRangeRule}
-use Rattle.edits.specs.Rules.{clearRule, growRule, growAndInsertRule}
+use Rattle.edits.specs.Rules.{clearRule, growRule, growAndInsertRule, insertAllRule}
 use Rattle.sets.specs.Questions.{bothQuestions}
 use Rattle.two_sets.specs.Rules.{unionWithRule, intersectWithRule, differenceWithRule, symmetricDifferenceWithRule}
-use Rattle.calls.specs.Calls.{Call, Insert, Remove, Put, Toggle, Set, CopyBit, InsertRange, RemoveRange, ToggleRange, SetRange, Clear, Grow, GrowAndInsert, UnionWith, IntersectWith, DifferenceWith, SymmetricDifferenceWith}
+use Rattle.calls.specs.Calls.{Call, Insert, Remove, Put, Toggle, Set, CopyBit, InsertRange, RemoveRange, ToggleRange, SetRange, Clear, Grow, GrowAndInsert, UnionWith, IntersectWith, DifferenceWith, SymmetricDifferenceWith, InsertAll}
 use Rattle.calls.specs.History.{State, history}
 use Rattle.calls.specs.Encoding.{decodeAll}
 use Rattle.calls.specs.declared.replayed.Replayed.{Replayed}
@@ -34,6 +34,7 @@ callRule set ws o vs UnionWith = unionWithRule set ws o vs
 callRule set ws o vs IntersectWith = intersectWithRule set ws o vs
 callRule set ws o vs DifferenceWith = differenceWithRule set ws o vs
 callRule set ws o vs SymmetricDifferenceWith = symmetricDifferenceWithRule set ws o vs
+callRule set ws o vs (InsertAll ps) = insertAllRule set ws ps
 
 -- no call leaves everything as it was
 abbrev pub decodedRule : FixedBitSet → List ℕ → FixedBitSet → List ℕ → Option Call → Outcome
@@ -56,7 +57,7 @@ abbrev pub stored : List ℕ → List ℕ → State → ReplayOutcome
 stored ws vs s = record { number = 0; a = setOf (s .a); words = write ws (s .a); b = setOf (s .b); other = write vs (s .b) }
 
 -- questions 1 to 3 of A, then of B; then the history's state, from what the words hold
-abbrev pub replayRule : FixedBitSet → List ℕ → FixedBitSet → List ℕ → List ℕ → ReplayOutcome
-replayRule a ws b vs calls =
+abbrev pub replayRule : FixedBitSet → List ℕ → FixedBitSet → List ℕ → List ℕ → List ℕ → ReplayOutcome
+replayRule a ws b vs calls positions =
     given (bothQuestions a ws b vs) (λ m. record { number = m; a = a; words = ws; b = b; other = vs })
-    (stored ws vs (history (length ws) (length vs) (decodeAll calls) (record { a = read ws a; b = read vs b })))
+    (stored ws vs (history (length ws) (length vs) (decodeAll positions calls) (record { a = read ws a; b = read vs b })))

@@ -3,6 +3,7 @@ use edits::copy_bit;
 use edits::grow;
 use edits::grow_and_insert;
 use edits::insert;
+use edits::insert_all;
 use edits::insert_range;
 use edits::put;
 use edits::remove;
@@ -18,9 +19,12 @@ use two_sets::intersect_with;
 use two_sets::symmetric_difference_with;
 use two_sets::union_with;
 ghost use mathlib.Core.Path.{_≡_};
+ghost use mathlib.Core.List.{List};
+ghost use Prim.Native.Nat.{ℕ};
 ghost use Rattle.sets.specs.Outcomes.{outcome};
+ghost use Rattle.sets.specs.declared.fixed_bit_set.FixedBitSet.{FixedBitSet as Set};
 ghost use Rattle.edits.specs.Rules.{putRule};
-ghost use Rattle.calls.specs.Encoding.{decode};
+ghost use Rattle.calls.specs.Encoding.{decode, listed};
 ghost use Rattle.calls.specs.Rules.{decodedRule};
 
 fn put_only(target: FixedBitSet, words: &mut [u64], bit: usize) -> Edited
@@ -34,18 +38,44 @@ fn put_only(target: FixedBitSet, words: &mut [u64], bit: usize) -> Edited
     }
 }
 
+// The positions start..end of the list. A part that the list does not have is no call.
+fn insert_part(
+    target: FixedBitSet,
+    words: &mut [u64],
+    positions: &[u64],
+    start: usize,
+    end: usize,
+) -> Edited
+    ensures { λ r. ⌜ ((o : Set) (vs : List ℕ) → outcome r (now (words .exit)) ≡ decodedRule target (now (words .entry)) o vs (listed (now (positions .entry)) start end)) ⌝ }
+{
+    if end < start {
+        return Edited {
+            number: 0,
+            set: target,
+        };
+    }
+    if positions.len() < end {
+        return Edited {
+            number: 0,
+            set: target,
+        };
+    }
+    insert_all(target, words, &positions[start..end])
+}
+
 // The call of a number on the target, the other set read. An unknown number is no call.
 pub(crate) fn make_call(
     target: FixedBitSet,
     words: &mut [u64],
     read: FixedBitSet,
     other: &[u64],
+    positions: &[u64],
     code: u64,
     x: usize,
     y: usize,
     z: bool,
 ) -> Edited
-    ensures { λ r. ⌜ outcome r (now (words .exit)) ≡ decodedRule target (now (words .entry)) read (now (other .entry)) (decode code x y z) ⌝ }
+    ensures { λ r. ⌜ outcome r (now (words .exit)) ≡ decodedRule target (now (words .entry)) read (now (other .entry)) (decode (now (positions .entry)) code x y z) ⌝ }
 {
     match code {
         0 => insert(target, words, x),
@@ -65,6 +95,7 @@ pub(crate) fn make_call(
         14 => intersect_with(target, words, read, other),
         15 => difference_with(target, words, read, other),
         16 => symmetric_difference_with(target, words, read, other),
+        17 => insert_part(target, words, positions, x, y),
         _ => Edited {
             number: 0,
             set: target,

@@ -16,6 +16,7 @@ fn replay_one(
     words: &mut [u64],
     b: FixedBitSet,
     other: &mut [u64],
+    positions: &[u64],
     on: u64,
     code: u64,
     x: usize,
@@ -23,10 +24,10 @@ fn replay_one(
     z: u64,
 ) -> Replayed
     requires { ⌜ bothQuestions a (now words) b (now other) ≡ 0 ⌝ }
-    ensures { λ r. ⌜ replayOutcome r (now (words .exit)) (now (other .exit)) ≡ stored (now (words .entry)) (now (other .entry)) (history (length (now (words .entry))) (length (now (other .entry))) (decodeOne on code x y z) (record { a = read (now (words .entry)) a; b = read (now (other .entry)) b })) ⌝ }
+    ensures { λ r. ⌜ replayOutcome r (now (words .exit)) (now (other .exit)) ≡ stored (now (words .entry)) (now (other .entry)) (history (length (now (words .entry))) (length (now (other .entry))) (decodeOne (now (positions .entry)) on code x y z) (record { a = read (now (words .entry)) a; b = read (now (other .entry)) b })) ⌝ }
 {
     if on == 0 {
-        let edited = make_call(a, words, b, other, code, x, y, z != 0);
+        let edited = make_call(a, words, b, other, positions, code, x, y, z != 0);
         let after = edited.set;
         return Replayed {
             number: 0,
@@ -35,7 +36,7 @@ fn replay_one(
         };
     }
     if on == 1 {
-        let edited = make_call(b, other, a, words, code, x, y, z != 0);
+        let edited = make_call(b, other, a, words, positions, code, x, y, z != 0);
         let after = edited.set;
         return Replayed {
             number: 0,
@@ -53,9 +54,10 @@ fn replay_all(
     b: FixedBitSet,
     other: &mut [u64],
     calls: &[u64],
+    positions: &[u64],
 ) -> Replayed
     requires { ⌜ bothQuestions a (now words) b (now other) ≡ 0 ⌝ }
-    ensures { λ r. ⌜ replayOutcome r (now (words .exit)) (now (other .exit)) ≡ stored (now (words .entry)) (now (other .entry)) (history (length (now (words .entry))) (length (now (other .entry))) (decodeAll (now (calls .entry))) (record { a = read (now (words .entry)) a; b = read (now (other .entry)) b })) ⌝ }
+    ensures { λ r. ⌜ replayOutcome r (now (words .exit)) (now (other .exit)) ≡ stored (now (words .entry)) (now (other .entry)) (history (length (now (words .entry))) (length (now (other .entry))) (decodeAll (now (positions .entry)) (now (calls .entry))) (record { a = read (now (words .entry)) a; b = read (now (other .entry)) b })) ⌝ }
 {
     let mut first = a;
     let mut second = b;
@@ -66,6 +68,7 @@ fn replay_all(
             words,
             second,
             other,
+            positions,
             calls[at],
             calls[at + 1],
             calls[at + 2] as usize,
@@ -85,19 +88,20 @@ fn replay_all(
     }
 }
 
-// The calls of a list of numbers, five for each call, one after the other; each gets what the ones before it stored.
+// The calls of a list of numbers, five for each call, one after the other; each gets what the ones before it stored. `positions` has the lists that they mark.
 pub fn replay(
     a: FixedBitSet,
     words: &mut [u64],
     b: FixedBitSet,
     other: &mut [u64],
     calls: &[u64],
+    positions: &[u64],
 ) -> Replayed
-    ensures { λ r. ⌜ replayOutcome r (now (words .exit)) (now (other .exit)) ≡ replayRule a (now (words .entry)) b (now (other .entry)) (now (calls .entry)) ⌝ }
+    ensures { λ r. ⌜ replayOutcome r (now (words .exit)) (now (other .exit)) ≡ replayRule a (now (words .entry)) b (now (other .entry)) (now (calls .entry)) (now (positions .entry)) ⌝ }
 {
     let number = check_both(a, words, b, other);
     if number != 0 {
         return Replayed { number, a, b };
     }
-    replay_all(a, words, b, other, calls)
+    replay_all(a, words, b, other, calls, positions)
 }

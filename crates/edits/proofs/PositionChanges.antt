@@ -34,7 +34,7 @@ eqb-agree a b c d f g = go (eqb a b) refl
     go false e = sym (ne-eqb c d (λ q. eqb-false a b e (g q)))
 
 -- the slice has the word of a position below the length
-word-room : {set : FixedBitSet} {ws : List ℕ} → Valid set ws → (bit : ℕ) → bit < set .length → bit / 64 < length ws
+pub word-room : {set : FixedBitSet} {ws : List ℕ} → Valid set ws → (bit : ℕ) → bit < set .length → bit / 64 < length ws
 word-room {set} v bit h = let w = word-of (set .length) bit h in omega (arith, v .enough)
 
 module _ (set : FixedBitSet) (ws : List ℕ) (v : Valid set ws) (fit : (k : ℕ) → getD ws k 0 < 2 ^ 64) (bit : ℕ) (h : bit < set .length)

@@ -1,5 +1,6 @@
 -- What an accepted edit leaves, position by position.
-use mathlib.Core.Bool.{Bool, true, false, not}
+use mathlib.Core.Bool.{Bool, true, false, not, _||_}
+use mathlib.Core.List.{List, [], _∷_}
 use Prim.Native.Nat.{ℕ, _+_, max}
 use lib.Dec.{eqb}
 use Rattle.masks.specs.Ranges.{covers}
@@ -21,6 +22,15 @@ assigned b enabled s = changed (eqb b) (λ was. enabled) s
 -- `copy_bit` gives `to` the state that `from` had
 abbrev pub copied : ℕ → ℕ → Members → Members
 copied from to s = assigned to (s .has from) s
+
+-- whether p is one of a list
+unfoldable pub isIn : List ℕ → ℕ → Bool
+isIn [] p = false
+isIn (q ∷ qs) p = eqb q p || isIn qs p
+
+-- `insert_all` makes each position of a list a member
+abbrev pub insertedAll : List ℕ → Members → Members
+insertedAll ps s = changed (isIn ps) (λ was. true) s
 
 -- the same over a range
 abbrev pub insertedRange : ℕ → ℕ → Members → Members

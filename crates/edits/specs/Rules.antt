@@ -3,10 +3,10 @@ use mathlib.Core.Bool.{Bool, false}
 use mathlib.Core.List.{List}
 use Prim.Native.Nat.{ℕ, _+_, max}
 use Rattle.sets.specs.Members.{Members, read}
-use Rattle.sets.specs.Questions.{first, questions, newQuestions, positionQuestions, rangeQuestions}
+use Rattle.sets.specs.Questions.{first, questions, newQuestions, positionsQuestion, positionQuestions, rangeQuestions}
 use Rattle.sets.specs.Outcomes.{Outcome, given, edited}
 use Rattle.sets.specs.declared.fixed_bit_set.FixedBitSet.{FixedBitSet}
-use Rattle.edits.specs.Edits.{inserted, removed, toggled, assigned, copied, insertedRange, removedRange, toggledRange, assignedRange, cleared, grown, grownAndInserted}
+use Rattle.edits.specs.Edits.{inserted, removed, toggled, assigned, copied, insertedAll, insertedRange, removedRange, toggledRange, assignedRange, cleared, grown, grownAndInserted}
 use Rattle.edits.specs.declared.positions.Replaced.{Replaced}
 use lib.ListN.{length}
 
@@ -42,6 +42,10 @@ putRule set ws bit = record {
   edit = insertRule set ws bit;
   was = given (positionQuestions set ws bit) (λ m. false) (read ws set .has bit);
 }
+
+-- 1 to 3, then 4 of every position
+abbrev pub insertAllRule : FixedBitSet → List ℕ → List ℕ → Outcome
+insertAllRule set ws ps = edited (first (questions set ws) (positionsQuestion set ps)) set ws (insertedAll ps (read ws set))
 
 -- 1 to 3, then 5
 abbrev pub overRange : FixedBitSet → List ℕ → ℕ → ℕ → Members → Outcome

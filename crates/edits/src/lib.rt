@@ -1,10 +1,12 @@
-// Edits of a set: of a position, of a range, of the whole set.
+// Edits of a set: of a position, of a list of positions, of a range, of the whole set.
 mod change;
 mod covered;
+mod lists;
 mod positions;
 mod ranges;
 mod whole_set;
 
+pub use lists::insert_all;
 pub use positions::Replaced;
 pub use positions::copy_bit;
 pub use positions::insert;

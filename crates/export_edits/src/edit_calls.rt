@@ -4,6 +4,7 @@ use edits::copy_bit;
 use edits::grow;
 use edits::grow_and_insert;
 use edits::insert;
+use edits::insert_all;
 use edits::insert_range;
 use edits::put;
 use edits::remove;
@@ -17,7 +18,7 @@ ghost use mathlib.Core.Path.{_≡_};
 ghost use Rattle.sets.specs.Outcomes.{outcome};
 ghost use Rattle.edits.specs.Rules.{insertRule, removeRule, toggleRule, setRule, copyBitRule, putOutcome, putRule};
 ghost use Rattle.edits.specs.Rules.{insertRangeRule, removeRangeRule, toggleRangeRule, setRangeRule};
-ghost use Rattle.edits.specs.Rules.{clearRule, growRule, growAndInsertRule};
+ghost use Rattle.edits.specs.Rules.{clearRule, growRule, growAndInsertRule, insertAllRule};
 
 #[no_mangle]
 pub extern "C" fn fbs_insert(set: FixedBitSet, words: &mut [u64], bit: usize) -> Edited
@@ -134,4 +135,11 @@ pub extern "C" fn fbs_grow_and_insert(set: FixedBitSet, words: &mut [u64], bit: 
     ensures { λ r. ⌜ outcome r (now (words .exit)) ≡ growAndInsertRule set (now (words .entry)) bit ⌝ }
 {
     grow_and_insert(set, words, bit)
+}
+
+#[no_mangle]
+pub extern "C" fn fbs_insert_all(set: FixedBitSet, words: &mut [u64], positions: &[u64]) -> Edited
+    ensures { λ r. ⌜ outcome r (now (words .exit)) ≡ insertAllRule set (now (words .entry)) (now (positions .entry)) ⌝ }
+{
+    insert_all(set, words, positions)
 }

@@ -26,11 +26,12 @@ pub extern "C" fn fbs_run_history(
     b_bits: usize,
     other: &mut [u64],
     calls: &[u64],
+    positions: &[u64],
     walk: u64,
     steps: &[u64],
     out: &mut [u64],
 ) -> Ran
-    ensures { λ r. ⌜ ExportedRun walk (inputOf «a_bits» (now (words .entry)) «b_bits» (now (other .entry)) (now (calls .entry)) (walkOf walk) (now (steps .entry)) (now (out .entry))) (outputOf r (now (words .exit)) (now (other .exit)) (now (out .exit))) ⌝ }
+    ensures { λ r. ⌜ ExportedRun walk (inputOf «a_bits» (now (words .entry)) «b_bits» (now (other .entry)) (now (calls .entry)) (now (positions .entry)) (walkOf walk) (now (steps .entry)) (now (out .entry))) (outputOf r (now (words .exit)) (now (other .exit)) (now (out .exit))) ⌝ }
 {
     if 4 < walk {
         return Ran {
@@ -46,6 +47,7 @@ pub extern "C" fn fbs_run_history(
         b_bits,
         other,
         calls,
+        positions,
         walk_of(walk),
         steps,
         out,

@@ -69,11 +69,11 @@ module _ (i : Input) (go : questionsOf i ≡ 0) where
       let inner = first-both askedB askedOut (outer .1) in (outer .0, inner .0, inner .1)
 
   k : Keeps (length ws) (length vs) (freshSets (i .aBits) (i .bBits)) (stateOf i)
-  k = kept (i .aBits) (length ws) (i .bBits) (length vs) (decodeAll (i .calls)) (passed .0) (passed .1)
+  k = kept (i .aBits) (length ws) (i .bBits) (length vs) (decodeAll (i .positions) (i .calls)) (passed .0) (passed .1)
 
   -- the calls leave the history's state
   replayed : {x y : Outcome} {z : ReplayOutcome} → x ≡ withCapacityRule (i .aBits) ws → y ≡ withCapacityRule (i .bBits) vs
-      → z ≡ replayRule (x .set) (x .words) (y .set) (y .words) (i .calls) → z ≡ stored ws vs (stateOf i)
+      → z ≡ replayRule (x .set) (x .words) (y .set) (y .words) (i .calls) (i .positions) → z ≡ stored ws vs (stateOf i)
   replayed e f g =
       let a = empty (i .aBits) in
       let b = empty (i .bBits) in
@@ -115,13 +115,13 @@ module _ (i : Input) (go : questionsOf i ≡ 0) where
   given-answers = answers (i .walk) (stateOf i .a) (stateOf i .b) (map endOf (i .steps))
 
   demand : Walked (i .walk) (stateOf i .a) (stateOf i .b) (map endOf (i .steps)) given-answers (length (walkList (i .walk) (stateOf i .a) (stateOf i .b)))
-  demand = history-walked (i .aBits) (length ws) (i .bBits) (length vs) (decodeAll (i .calls)) (passed .0) (passed .1) (i .walk) (map endOf (i .steps))
+  demand = history-walked (i .aBits) (length ws) (i .bBits) (length vs) (decodeAll (i .positions) (i .calls)) (passed .0) (passed .1) (i .walk) (map endOf (i .steps))
 
   one-each : length (map answerWord given-answers) ≡ length (i .steps)
   one-each = length-map given-answers answerWord ∙ demand .answered ∙ length-map (i .steps) endOf
 
   pub accepted : {x y : Outcome} {z : ReplayOutcome} {w : WalkOutcome} → x ≡ withCapacityRule (i .aBits) ws → y ≡ withCapacityRule (i .bBits) vs
-      → z ≡ replayRule (x .set) (x .words) (y .set) (y .words) (i .calls) → w ≡ walkRule (z .a) (z .words) (z .b) (z .other) (i .walk) (i .steps) (i .out)
+      → z ≡ replayRule (x .set) (x .words) (y .set) (y .words) (i .calls) (i .positions) → w ≡ walkRule (z .a) (z .words) (z .b) (z .other) (i .walk) (i .steps) (i .out)
       → Accepted i (record { number = w .number; a = z .a; words = z .words; b = z .b; other = z .other; count = w .count; out = w .out })
   accepted e f g h =
       let z = replayed e f g in

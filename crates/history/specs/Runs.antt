@@ -11,13 +11,14 @@ use Rattle.whole_walks.specs.Rules.{answersQuestion}
 use Rattle.whole_walks.specs.declared.walk.Walk.{Walk}
 use Rattle.history.specs.declared.ran.Ran.{Ran}
 
--- two lengths with their buffers, the calls as numbers, the walk, the steps as numbers, and the buffer for the answers
+-- two lengths with their buffers, the calls as numbers with the list of positions that they name parts of, the walk, the steps as numbers, and the buffer for the answers
 pub record Input : Type 0 where
   pub aBits : ℕ
   pub words : List ℕ
   pub bBits : ℕ
   pub other : List ℕ
   pub calls : List ℕ
+  pub positions : List ℕ
   pub walk : Walk
   pub steps : List ℕ
   pub out : List ℕ
@@ -31,8 +32,8 @@ pub record Output : Type 0 where
   pub count : ℕ
   pub out : List ℕ
 
-abbrev pub inputOf : ℕ → List ℕ → ℕ → List ℕ → List ℕ → Walk → List ℕ → List ℕ → Input
-inputOf m ws n vs calls walk steps out = record { aBits = m; words = ws; bBits = n; other = vs; calls = calls; walk = walk; steps = steps; out = out }
+abbrev pub inputOf : ℕ → List ℕ → ℕ → List ℕ → List ℕ → List ℕ → Walk → List ℕ → List ℕ → Input
+inputOf m ws n vs calls positions walk steps out = record { aBits = m; words = ws; bBits = n; other = vs; calls = calls; positions = positions; walk = walk; steps = steps; out = out }
 
 abbrev pub outputOf : Ran → List ℕ → List ℕ → List ℕ → Output
 outputOf r ws vs out = record { number = r .number; a = r .a; words = ws; b = r .b; other = vs; count = r .count; out = out }
@@ -50,4 +51,4 @@ unaltered i = record { number = questionsOf i; a = setOf (empty 0); words = i .w
 
 -- the state after the last call, by the history rule
 abbrev pub stateOf : Input → State
-stateOf i = history (length (i .words)) (length (i .other)) (decodeAll (i .calls)) (freshSets (i .aBits) (i .bBits))
+stateOf i = history (length (i .words)) (length (i .other)) (decodeAll (i .positions) (i .calls)) (freshSets (i .aBits) (i .bBits))

@@ -42,11 +42,12 @@ pub fn run_history(
     b_bits: usize,
     other: &mut [u64],
     calls: &[u64],
+    positions: &[u64],
     walk: Walk,
     steps: &[u64],
     out: &mut [u64],
 ) -> Ran
-    ensures { λ r. ⌜ ThirdDemand (inputOf «a_bits» (now (words .entry)) «b_bits» (now (other .entry)) (now (calls .entry)) walk (now (steps .entry)) (now (out .entry))) (outputOf r (now (words .exit)) (now (other .exit)) (now (out .exit))) ⌝ }
+    ensures { λ r. ⌜ ThirdDemand (inputOf «a_bits» (now (words .entry)) «b_bits» (now (other .entry)) (now (calls .entry)) (now (positions .entry)) walk (now (steps .entry)) (now (out .entry))) (outputOf r (now (words .exit)) (now (other .exit)) (now (out .exit))) ⌝ }
 {
     let number = ask_run(a_bits, words, b_bits, other, steps, out);
     if number != 0 {
@@ -61,7 +62,7 @@ pub fn run_history(
     let two = with_capacity(b_bits, other);
     let fresh_a = one.set;
     let fresh_b = two.set;
-    let replayed = replay(fresh_a, words, fresh_b, other, calls);
+    let replayed = replay(fresh_a, words, fresh_b, other, calls, positions);
     let a = replayed.a;
     let b = replayed.b;
     let counted = walk_whole(a, words, b, other, walk, steps, out);

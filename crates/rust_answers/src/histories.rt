@@ -81,6 +81,7 @@ fn ends_alike(
         block(numbers, 1) as usize,
         other,
         part(numbers, 3, at.walk),
+        part(numbers, 0, 0),
         walk_of(block(numbers, at.walk)),
         part(numbers, at.steps, at.a_length),
         out,

@@ -1,6 +1,7 @@
 pub mod WordLaws
 pub mod WriteLaws
 pub mod QuestionLaws
+pub mod ListQuestionLaws
 pub mod RangeQuestionLaws
 pub mod OutcomeLaws
 pub mod ReadLaws

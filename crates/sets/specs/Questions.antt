@@ -1,6 +1,6 @@
 -- The questions before any work: each is 0 for yes, and its number for no. Question 9 is asked of the helper's word and stands with it, in word_bits.
 use mathlib.Core.Bool.{cond, _&&_}
-use mathlib.Core.List.{List}
+use mathlib.Core.List.{List, [], _∷_}
 use Prim.Native.Nat.{ℕ, _*_}
 use lib.Dec.{eqb, leb, ltb}
 use lib.ListN.{length}
@@ -32,6 +32,11 @@ questions set ws = first (lengthQuestion set) (first (wordsQuestion set ws) (str
 -- 4. Is the position to be changed below L?
 unfoldable pub positionQuestion : FixedBitSet → ℕ → ℕ
 positionQuestion set p = cond (ltb p (set .length)) 0 4
+
+-- 4 of a list of positions: is each of them below L?
+unfoldable pub positionsQuestion : FixedBitSet → List ℕ → ℕ
+positionsQuestion set [] = 0
+positionsQuestion set (p ∷ ps) = first (positionQuestion set p) (positionsQuestion set ps)
 
 -- 5. Is start <= end and end <= L?
 unfoldable pub rangeQuestion : ℕ → ℕ → ℕ → ℕ

@@ -20,6 +20,7 @@ pub use membership::member;
 pub use questions::ask_new;
 pub use questions::ask_part;
 pub use questions::ask_position;
+pub use questions::ask_positions;
 pub use questions::ask_range;
 pub use questions::check;
 pub use questions::check_both;

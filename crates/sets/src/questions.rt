@@ -3,7 +3,7 @@ use crate::fixed_bit_set::FixedBitSet;
 use crate::sizes::blocks_of;
 ghost use mathlib.Core.Path.{_≡_};
 ghost use lib.ListN.{length};
-ghost use Rattle.sets.specs.Questions.{questions, positionQuestion, rangeQuestion, partQuestion, positionQuestions, rangeQuestions, partQuestions, newQuestions, bothQuestions, twoQuestions, pairQuestions};
+ghost use Rattle.sets.specs.Questions.{questions, positionQuestion, positionsQuestion, rangeQuestion, partQuestion, positionQuestions, rangeQuestions, partQuestions, newQuestions, bothQuestions, twoQuestions, pairQuestions};
 
 // Questions 1 to 3. Only the last word can have a bit from the length up, and only where the length is no multiple of 64.
 pub fn check(set: FixedBitSet, words: &[u64]) -> u64
@@ -29,6 +29,22 @@ pub fn ask_position(set: FixedBitSet, bit: usize) -> u64
     ensures { λ r. ⌜ r ≡ positionQuestion set bit ⌝ }
 {
     if bit < set.length { 0 } else { 4 }
+}
+
+// Question 4 of each position of a list. Those that are out are counted, from the last down: a test and a sum for each, with no branch.
+pub fn ask_positions(set: FixedBitSet, positions: &[u64]) -> u64
+    ensures { λ r. ⌜ r ≡ positionsQuestion set (now (positions .entry)) ⌝ }
+{
+    let length = set.length as u64;
+    let mut out: usize = 0;
+    let mut k = positions.len();
+    while 0 < k {
+        k -= 1;
+        if length <= positions[k] {
+            out += 1;
+        }
+    }
+    if out == 0 { 0 } else { 4 }
 }
 
 // Question 5.

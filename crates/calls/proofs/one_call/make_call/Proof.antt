@@ -56,14 +56,18 @@ returns-17 : tie.Need-returns-17
 returns-17 c = rw (c .before .before .before .before .match .keys17) (c .before .before .symmetric-difference-with .ensures)
 
 returns-18 : tie.Need-returns-18
-returns-18 c =
+returns-18 c = rw (c .before .before .before .before .match .keys18) (c .before .before .insert-part .ensures _ _)
+
+returns-19 : tie.Need-returns-19
+returns-19 c =
     let r = c .match .rest in
-    simp (ne-eqb _ 0 (r .0 .0 .0 .0 .0 .0 .0 .0 .0 .0 .0 .0 .0 .0 .0 .0 .1), ne-eqb _ 1 (r .0 .0 .0 .0 .0 .0 .0 .0 .0 .0 .0 .0 .0 .0 .0 .1), ne-eqb _ 2 (r .0 .0 .0 .0 .0 .0 .0 .0 .0 .0 .0 .0 .0 .0 .1), ne-eqb _ 3 (r .0 .0 .0 .0 .0 .0 .0 .0 .0 .0 .0 .0 .0 .1), ne-eqb _ 4 (r .0 .0 .0 .0 .0 .0 .0 .0 .0 .0 .0 .0 .1), ne-eqb _ 5 (r .0 .0 .0 .0 .0 .0 .0 .0 .0 .0 .0 .1), ne-eqb _ 6 (r .0 .0 .0 .0 .0 .0 .0 .0 .0 .0 .1), ne-eqb _ 7 (r .0 .0 .0 .0 .0 .0 .0 .0 .0 .1), ne-eqb _ 8 (r .0 .0 .0 .0 .0 .0 .0 .0 .1), ne-eqb _ 9 (r .0 .0 .0 .0 .0 .0 .0 .1), ne-eqb _ 10 (r .0 .0 .0 .0 .0 .0 .1), ne-eqb _ 11 (r .0 .0 .0 .0 .0 .1), ne-eqb _ 12 (r .0 .0 .0 .0 .1), ne-eqb _ 13 (r .0 .0 .0 .1), ne-eqb _ 14 (r .0 .0 .1), ne-eqb _ 15 (r .0 .1), ne-eqb _ 16 (r .1))
+    simp (ne-eqb _ 0 (r .0 .0 .0 .0 .0 .0 .0 .0 .0 .0 .0 .0 .0 .0 .0 .0 .0 .1), ne-eqb _ 1 (r .0 .0 .0 .0 .0 .0 .0 .0 .0 .0 .0 .0 .0 .0 .0 .0 .1), ne-eqb _ 2 (r .0 .0 .0 .0 .0 .0 .0 .0 .0 .0 .0 .0 .0 .0 .0 .1), ne-eqb _ 3 (r .0 .0 .0 .0 .0 .0 .0 .0 .0 .0 .0 .0 .0 .0 .1), ne-eqb _ 4 (r .0 .0 .0 .0 .0 .0 .0 .0 .0 .0 .0 .0 .0 .1), ne-eqb _ 5 (r .0 .0 .0 .0 .0 .0 .0 .0 .0 .0 .0 .0 .1), ne-eqb _ 6 (r .0 .0 .0 .0 .0 .0 .0 .0 .0 .0 .0 .1), ne-eqb _ 7 (r .0 .0 .0 .0 .0 .0 .0 .0 .0 .0 .1), ne-eqb _ 8 (r .0 .0 .0 .0 .0 .0 .0 .0 .0 .1), ne-eqb _ 9 (r .0 .0 .0 .0 .0 .0 .0 .0 .1), ne-eqb _ 10 (r .0 .0 .0 .0 .0 .0 .0 .1), ne-eqb _ 11 (r .0 .0 .0 .0 .0 .0 .1), ne-eqb _ 12 (r .0 .0 .0 .0 .0 .1), ne-eqb _ 13 (r .0 .0 .0 .0 .1), ne-eqb _ 14 (r .0 .0 .0 .1), ne-eqb _ 15 (r .0 .0 .1), ne-eqb _ 16 (r .0 .1), ne-eqb _ 17 (r .1))
 
 pub make-call-spec : {M : Type 1} → statement M
 make-call-spec =
     tie.close
     (tie.spec
+    (λ c κs. search needs)
     (λ c κs. search needs)
     (λ c κs. search needs)
     (λ c κs. search needs)
@@ -115,4 +119,6 @@ make-call-spec =
     returns-16
     (λ c. search needs)
     returns-17
-    returns-18)
+    (λ c. search needs)
+    returns-18
+    returns-19)
