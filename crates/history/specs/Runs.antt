@@ -38,7 +38,7 @@ inputOf m ws n vs calls positions walk steps out = record { aBits = m; words = w
 abbrev pub outputOf : Ran → List ℕ → List ℕ → List ℕ → Output
 outputOf r ws vs out = record { number = r .number; a = r .a; words = ws; b = r .b; other = vs; count = r .count; out = out }
 
--- 6 and 7 of the first freshSets set, then of the second; then 7 of the buffer for the answers
+-- 6 and 7 of the first fresh set, then of the second; then 7 of the buffer for the answers
 abbrev pub runQuestions : ℕ → ℕ → ℕ → ℕ → ℕ → ℕ → ℕ
 runQuestions m room n space steps size = first (newQuestions m room) (first (newQuestions n space) (answersQuestion steps size))
 

@@ -6,8 +6,6 @@ use Rattle.byte_texts.specs.Texts.{byteAs}
 use Rattle.byte_texts.proofs.WriteLaws.{Writing, written-past, writing-start, writing-more, writing-end}
 use Rattle.byte_texts.proofs.texts.append_bytes.Statement.{statement}
 use Rattle.byte_texts.proofs.texts.append_bytes.Tie as tie
-use Rattle.byte_texts.proofs.texts.append_bytes.Reads as reads
-use Rattle.byte_texts.proofs.texts.append_bytes.Lts as lts
 
 abbrev Inv-loop : tie.InvT-loop
 Inv-loop out₀ at text shown size count k₀ out k = (k ≤ count) × Writing (byteAs shown) text out₀ at out k
