@@ -39,10 +39,10 @@ fn extreme(at: FbsFound) -> Outcome {
     Outcome { number: at.number, answer: Answer::Found(found(at.found, at.at)) }
 }
 
-fn edit(edit: Edit, a: &mut Lent, b: &mut Lent) -> Outcome {
+fn edit(edit: Edit, a: &mut Lent, b: &Lent) -> Outcome {
     let (s, w, n) = (set(a), a.words.as_mut_ptr(), a.words.len());
-    let (t, v, m) = (set(b), b.words.as_mut_ptr().cast_const(), b.words.len());
-    // SAFETY: each pointer is that of a vector, with its number of words; the two vectors do not overlap.
+    let (t, v, m) = (set(b), b.words.as_ptr(), b.words.len());
+    // SAFETY: each pointer is that of a slice, with its number of words; none overlaps that of the first set.
     unsafe {
         edited(match edit {
             Edit::Insert(p) => fbs_insert(s, w, n, p),
@@ -65,6 +65,7 @@ fn edit(edit: Edit, a: &mut Lent, b: &mut Lent) -> Outcome {
             Edit::IntersectWith => fbs_intersect_with(s, w, n, t, v, m),
             Edit::DifferenceWith => fbs_difference_with(s, w, n, t, v, m),
             Edit::SymmetricDifferenceWith => fbs_symmetric_difference_with(s, w, n, t, v, m),
+            Edit::InsertAll(list) => fbs_insert_all(s, w, n, list.as_ptr(), list.len()),
         })
     }
 }
@@ -228,8 +229,8 @@ impl Engine for Archive {
     }
 
     fn call(&self, case: &mut Case) -> Option<Outcome> {
-        if let Call::Edit(call) = case.call {
-            return Some(edit(call, &mut case.a, &mut case.b));
+        if let Some(call) = case.call.edit(&case.b.words) {
+            return Some(edit(call, &mut case.a, &case.b));
         }
         Some(of_words(case.call).unwrap_or_else(|| of_sets(case)))
     }
@@ -278,8 +279,8 @@ impl Engine for Archive {
                 history.b_words.len(),
                 history.calls.as_ptr(),
                 history.calls.len(),
-                std::ptr::NonNull::dangling().as_ptr(),
-                0,
+                history.positions.as_ptr(),
+                history.positions.len(),
                 history.walk,
                 history.steps.as_ptr(),
                 history.steps.len(),

@@ -112,6 +112,7 @@ fn edit(edit: Edit, a: &mut Lent, b: &Lent) -> Option<Outcome> {
             Ok(())
         }
         Edit::SymmetricDifferenceWith => set.symmetric_difference_with(other),
+        Edit::InsertAll(list) => set.insert_all(list),
     };
     Some(Outcome { number: number(&result), answer: Answer::Length(set.len()) })
 }
@@ -161,8 +162,10 @@ impl Engine for Bindings {
     }
 
     fn call(&self, case: &mut Case) -> Option<Outcome> {
+        if let Some(call) = case.call.edit(&case.b.words) {
+            return edit(call, &mut case.a, &case.b);
+        }
         match case.call {
-            Call::Edit(call) => edit(call, &mut case.a, &case.b),
             Call::WithCapacity(n) => Some(fresh(FixedBitSet::with_capacity(n, &mut case.a.words))),
             Call::WithCapacityAndBlocks(n) => Some(fresh(FixedBitSet::with_capacity_and_blocks(n, &case.b.words, &mut case.a.words))),
             Call::BitAnd | Call::BitOr | Call::BitXor => third(case),
@@ -190,7 +193,7 @@ impl Engine for Bindings {
         };
         let calls: Vec<[u64; 5]> = history.calls.chunks_exact(5).map(|five| [five[0], five[1], five[2], five[3], five[4]]).collect();
         let (a, b, out) = (&mut history.a_words, &mut history.b_words, &mut history.out);
-        let ran = run_history(history.a_bits, a, history.b_bits, b, &calls, &[], walk, &history.steps, out);
+        let ran = run_history(history.a_bits, a, history.b_bits, b, &calls, &history.positions, walk, &history.steps, out);
         let (a_length, b_length, count) = ran.map_or((0, 0, 0), |ran| (ran.a_length, ran.b_length, ran.count));
         Some(Ran { number: number(&ran), a_length, b_length, count })
     }

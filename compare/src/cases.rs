@@ -11,9 +11,9 @@ impl Lent {
     pub const EMPTY: Lent = Lent { length: 0, words: Vec::new() };
 }
 
-/// The calls of a history, in the order of their numbers.
+/// The calls of a history, in the order of their numbers. A list is lent beside them.
 #[derive(Clone, Copy, Debug, PartialEq, Eq)]
-pub enum Edit {
+pub enum Edit<'p> {
     Insert(usize),
     Remove(usize),
     Put(usize),
@@ -31,14 +31,15 @@ pub enum Edit {
     IntersectWith,
     DifferenceWith,
     SymmetricDifferenceWith,
+    InsertAll(&'p [u64]),
 }
 
-impl Edit {
-    /// How many calls there are; a number from here on names none.
-    pub const CALLS: u64 = 17;
+impl<'p> Edit<'p> {
+    /// How many calls take numbers alone. The one after them takes a list, and a number above it names none.
+    pub const OF_NUMBERS: u64 = 17;
 
-    /// The call of a number, with two numbers and a yes or no.
-    pub fn decode(code: u64, x: usize, y: usize, z: bool) -> Option<Edit> {
+    /// The call of a number, with two numbers and a yes or no. That of a list names a part of the positions; one that they do not have is no call.
+    pub fn decode(positions: &'p [u64], code: u64, x: usize, y: usize, z: bool) -> Option<Edit<'p>> {
         Some(match code {
             0 => Edit::Insert(x),
             1 => Edit::Remove(x),
@@ -57,20 +58,21 @@ impl Edit {
             14 => Edit::IntersectWith,
             15 => Edit::DifferenceWith,
             16 => Edit::SymmetricDifferenceWith,
+            17 => Edit::InsertAll(positions.get(x..y)?),
             _ => return None,
         })
     }
 
     /// The call of five numbers, of which the first is the set; none of fewer.
-    pub fn of_five(five: &[u64]) -> Option<Edit> {
+    pub fn of_five(positions: &'p [u64], five: &[u64]) -> Option<Edit<'p>> {
         match *five {
-            [_, code, x, y, z] => Edit::decode(code, x as usize, y as usize, z != 0),
+            [_, code, x, y, z] => Edit::decode(positions, code, x as usize, y as usize, z != 0),
             _ => None,
         }
     }
 
-    /// The set (0 or 1), the call, two numbers and a yes or no.
-    pub fn encode(self, on: u64) -> [u64; 5] {
+    /// The set (0 or 1), the call, two numbers and a yes or no. A list begins at `at` in the lent positions.
+    pub fn encode(self, at: usize, on: u64) -> [u64; 5] {
         let (code, x, y, z) = match self {
             Edit::Insert(x) => (0, x, 0, false),
             Edit::Remove(x) => (1, x, 0, false),
@@ -89,6 +91,7 @@ impl Edit {
             Edit::IntersectWith => (14, 0, 0, false),
             Edit::DifferenceWith => (15, 0, 0, false),
             Edit::SymmetricDifferenceWith => (16, 0, 0, false),
+            Edit::InsertAll(list) => (17, at, at + list.len(), false),
         };
         [on, code, x as u64, y as u64, u64::from(z)]
     }
@@ -141,7 +144,10 @@ impl Record {
 /// A call with its numbers. The first set is `a` of the case, the second `b`.
 #[derive(Clone, Copy, Debug, PartialEq, Eq)]
 pub enum Call {
-    Edit(Edit),
+    /// An edit of numbers alone.
+    Edit(Edit<'static>),
+    /// The positions are the words of `b`.
+    InsertAll,
     WithCapacity(usize),
     /// The blocks are the words of `b`.
     WithCapacityAndBlocks(usize),
@@ -210,6 +216,15 @@ pub enum Call {
 }
 
 impl Call {
+    /// The edit that it is, if it is one, with its list.
+    pub fn edit(self, positions: &[u64]) -> Option<Edit<'_>> {
+        match self {
+            Call::Edit(edit) => Some(edit),
+            Call::InsertAll => Some(Edit::InsertAll(positions)),
+            _ => None,
+        }
+    }
+
     pub fn reads_second(self) -> bool {
         match self {
             Call::Edit(edit) => edit.reads_other(),
@@ -335,7 +350,8 @@ pub struct Walked {
     pub records: Option<(Record, Record)>,
 }
 
-/// A whole history: two fresh sets, calls of five numbers each, a walk by its number, steps, and a buffer for the answers.
+/// A whole history: two fresh sets, calls of five numbers each, the positions of which calls name parts, a walk by its number, steps, and a buffer for the
+/// answers.
 #[derive(Clone, Debug, PartialEq, Eq)]
 pub struct History {
     pub a_bits: usize,
@@ -343,6 +359,7 @@ pub struct History {
     pub b_bits: usize,
     pub b_words: Vec<u64>,
     pub calls: Vec<u64>,
+    pub positions: Vec<u64>,
     pub walk: u64,
     pub steps: Vec<u64>,
     pub out: Vec<u64>,

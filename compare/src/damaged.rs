@@ -3,6 +3,7 @@
 use crate::cases::{Call, Case, Edit, Lent, Record, Walk};
 use crate::inputs::{at_position, one, over_range, set, to_length, words_of, CALLERS, MOST, OF_TWO, PLAIN};
 use crate::judge::{Difference, Judge};
+use crate::lists::{insert_all, short};
 
 pub fn run(judge: &mut Judge) -> Result<(), Difference> {
     for length in [1, 5, 63, 65, 70, 127, 130] {
@@ -70,6 +71,9 @@ fn single(judge: &mut Judge, length: usize, a: &Lent) -> Result<(), Difference> 
             }
         }
     }
+    for list in short(length).into_iter().chain(short(a.length.min(usize::MAX - 1))) {
+        judge.check(&insert_all(&list, a.clone()))?;
+    }
     calls.into_iter().try_for_each(|call| judge.check(&one(call, a.clone())))
 }
 
@@ -105,6 +109,9 @@ fn every_stray_bit(judge: &mut Judge, length: usize) -> Result<(), Difference> {
         let calls = PLAIN.into_iter().chain(at_position(0)).chain(over_range(0, length)).chain(to_length(length + 1));
         for call in calls {
             judge.check(&one(call, stray.clone()))?;
+        }
+        for list in short(length) {
+            judge.check(&insert_all(&list, stray.clone()))?;
         }
         let record = Record { low: 0, high: length };
         let many = Walk::ALL.map(|walk| Call::NextMany { walk, one: record, two: record });

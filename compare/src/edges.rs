@@ -3,6 +3,7 @@
 use crate::cases::{Call, Case, Edit, Lent, Record, Step, Walk, WalkCase};
 use crate::inputs::{at_position, one, over_range, random_set, set, to_length, words_of, BUFFERS, CALLERS, MOST, OF_TWO, PLAIN};
 use crate::judge::{Difference, Judge};
+use crate::lists::{insert_all, long, random_list, short};
 use crate::prng::Prng;
 
 /// Every call at the ends that matter most, then some calls at `every` word's edge: 1 for all of them.
@@ -60,6 +61,7 @@ fn around(judge: &mut Judge, random: &mut Prng, n: usize, all: bool) -> Result<(
             judge.check(&Case { call, a, b, out: Vec::new() })?;
         }
     }
+    lists(judge, random, n, sets, all)?;
     beside(judge, random, n, &mixed, all)?;
     last_steps(judge, random, n, &mixed, &ends)?;
     many(judge, random, n, [&mixed, &ends, &full], all)
@@ -73,6 +75,17 @@ fn on_each(judge: &mut Judge, random: &mut Prng, calls: &[Call], sets: [&Lent; 3
                 judge.check(&one(*call, set.clone()))?;
             }
         }
+    }
+    Ok(())
+}
+
+/// Every list on each of the sets, or a random one on one.
+fn lists(judge: &mut Judge, random: &mut Prng, n: usize, sets: [&Lent; 3], all: bool) -> Result<(), Difference> {
+    if !all {
+        return judge.check(&insert_all(&random_list(random, n), random.one_of(&sets).clone()));
+    }
+    for list in short(n).into_iter().chain(long(n)) {
+        sets.iter().try_for_each(|set| judge.check(&insert_all(&list, (*set).clone())))?;
     }
     Ok(())
 }

@@ -1,9 +1,10 @@
-//! Every set of 0 to 6 bits, at every position and range, every pair of such sets, every mix of steps, and every short history; and the same sets
+//! Every set of 0 to 6 bits, at every position, range and short list of positions, every pair of such sets, every mix of steps, and every short history; and the same sets
 //! across a word's edge, from position 61 on.
 
 use crate::cases::{Call, Case, Edit, History, Lent, Record, Step, Walk, WalkCase};
 use crate::inputs::{at_position, one, over_range, set, to_length, CALLERS, OF_TWO, PLAIN};
 use crate::judge::{Difference, Judge};
+use crate::lists::{insert_all, of_size};
 
 const LONGEST: usize = 6;
 
@@ -23,6 +24,7 @@ pub fn run(judge: &mut Judge, depth: &Depth) -> Result<(), Difference> {
         let sets = sets(from);
         for set in &sets {
             single(judge, set, from)?;
+            lists(judge, set, from)?;
             records(judge, set, from)?;
             ones(judge, set)?;
         }
@@ -52,10 +54,16 @@ fn lent(set: &Lent, size: usize) -> Lent {
     Lent { length: set.length, words }
 }
 
-fn single(judge: &mut Judge, set: &Lent, from: usize) -> Result<(), Difference> {
+/// Those of the set, just past it, at a word's edge, and none that a set can have.
+fn positions(set: &Lent, from: usize) -> Vec<usize> {
     let mut positions: Vec<usize> = (from..=set.length + 1).chain([0, 63, 64, usize::MAX]).collect();
     positions.sort_unstable();
     positions.dedup();
+    positions
+}
+
+fn single(judge: &mut Judge, set: &Lent, from: usize) -> Result<(), Difference> {
+    let positions = positions(set, from);
     for size in [set.words.len(), set.words.len() + 2] {
         let mut check = |call: Call| judge.check(&one(call, lent(set, size)));
         PLAIN.into_iter().try_for_each(&mut check)?;
@@ -69,6 +77,15 @@ fn single(judge: &mut Judge, set: &Lent, from: usize) -> Result<(), Difference> 
         for n in positions.iter().copied().chain([65, 127, 128, 129, 65_535, 65_536, 65_537]) {
             to_length(n).into_iter().try_for_each(&mut check)?;
         }
+    }
+    Ok(())
+}
+
+/// Every list of up to three positions.
+fn lists(judge: &mut Judge, set: &Lent, from: usize) -> Result<(), Difference> {
+    let positions = positions(set, from);
+    for size in 0..=3 {
+        of_size(&positions, size).try_for_each(|list| judge.check(&insert_all(&list, lent(set, 2))))?;
     }
     Ok(())
 }
@@ -211,13 +228,17 @@ fn history(a_bits: usize, b_bits: usize, calls: &[[u64; 5]], made: usize) -> His
         b_bits,
         b_words: vec![CALLERS; 1 + made % 2],
         calls: calls.concat(),
+        positions: LISTED.to_vec(),
         walk: (made % 5) as u64,
         steps,
         out: vec![CALLERS; 7],
     }
 }
 
-/// Every call with positions 0 to 2, on both sets.
+/// The positions of which the calls of lists name parts: sets of up to 2 bits have them all, or not the first, a middle one or the last.
+const LISTED: [u64; 5] = [2, 0, 1, 1, 2];
+
+/// Every call with positions 0 to 2 and with every part of `LISTED`, on both sets; and with parts that it does not have.
 fn small_calls() -> Vec<[u64; 5]> {
     let mut edits = vec![Edit::Clear, Edit::UnionWith, Edit::IntersectWith, Edit::DifferenceWith, Edit::SymmetricDifferenceWith];
     for x in 0..=2 {
@@ -235,5 +256,10 @@ fn small_calls() -> Vec<[u64; 5]> {
         }
     }
     edits.extend([Edit::GrowAndInsert(64), Edit::Grow(65), Edit::Grow(129), Edit::GrowAndInsert(65_536)]);
-    edits.iter().flat_map(|edit| [edit.encode(0), edit.encode(1)]).collect()
+    let mut calls: Vec<[u64; 5]> = edits.iter().flat_map(|edit| [edit.encode(0, 0), edit.encode(0, 1)]).collect();
+    let parts = (0..=5).flat_map(|x| (x..=5).map(move |y| (x, y)));
+    for (x, y) in parts.chain([(1, 0), (5, 4), (0, 6), (5, 6), (6, 6), (0, u64::MAX)]) {
+        calls.extend([0, 1].map(|on| [on, 17, x, y, 0]));
+    }
+    calls
 }

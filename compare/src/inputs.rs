@@ -104,15 +104,15 @@ pub fn random_range(random: &mut Prng, length: usize) -> (usize, usize) {
     (x.min(y), x.max(y))
 }
 
-/// A random call of a history.
-pub fn random_edit(random: &mut Prng, length: usize) -> Edit {
-    let code = random.word() % Edit::CALLS;
+/// A random call of a history, of numbers alone.
+pub fn random_edit(random: &mut Prng, length: usize) -> Edit<'static> {
+    let code = random.word() % Edit::OF_NUMBERS;
     let (x, y) = match code {
         6..=9 => random_range(random, length),
         11 | 12 if random.once_in(2) => (length + random.below(70), 0),
         _ => (random_number(random, length), random_number(random, length)),
     };
-    Edit::decode(code, x, y, random.yes()).expect("a code below the number of calls")
+    Edit::decode(&[], code, x, y, random.yes()).expect("a call of numbers alone")
 }
 
 /// A case of one set; the second and the third buffer are empty.

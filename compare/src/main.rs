@@ -19,6 +19,7 @@ mod exhaustive;
 mod histories;
 mod inputs;
 mod judge;
+mod lists;
 mod model;
 mod prng;
 mod random;
@@ -136,7 +137,8 @@ fn stages(judge: &mut Judge, extent: &Extent, seed: u64, start: Instant) -> Resu
     done(judge, "edges of words");
     random::run(judge, &mut random, extent.answers)?;
     done(judge, "random calls and walks");
+    lists::histories(judge)?;
     histories::run(judge, &mut random, extent.histories)?;
-    done(judge, "random histories");
+    done(judge, "histories of lists, and random ones");
     Ok(())
 }

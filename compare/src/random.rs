@@ -6,6 +6,7 @@ use crate::inputs::{
     PLAIN,
 };
 use crate::judge::{Difference, Judge};
+use crate::lists::random_list;
 use crate::prng::Prng;
 
 /// Makes cases until the judge has compared `answers` more.
@@ -46,6 +47,9 @@ fn whole(random: &mut Prng) -> Case {
         }
     }
     let call = random_call(random, a.length, b.length);
+    if call == Call::InsertAll {
+        b = Lent { length: 0, words: random_list(random, a.length) };
+    }
     if call.reads_second() && random.yes() {
         a.words.resize(words_of(a.length.max(b.length)).max(a.words.len()), 7);
     }
@@ -58,7 +62,7 @@ fn whole(random: &mut Prng) -> Case {
 }
 
 fn random_call(random: &mut Prng, length: usize, other: usize) -> Call {
-    match random.below(12) {
+    match random.below(13) {
         0 => random.one_of(&PLAIN),
         1 | 2 => Call::Edit(random_edit(random, length)),
         3 => {
@@ -83,6 +87,7 @@ fn random_call(random: &mut Prng, length: usize, other: usize) -> Call {
                 Call::Step { walk, back: walk != Walk::Zeroes && random.yes(), one, two }
             }
         }
+        11 => Call::InsertAll,
         _ => Call::WalkerStep { back: random.yes(), part: random_record(random, length) },
     }
 }

@@ -88,6 +88,12 @@ fn make_edit(edit: Edit, set: &mut FixedBitSet, other: &FixedBitSet) -> Option<b
             Edit::IntersectWith => set.intersect_with(other),
             Edit::DifferenceWith => set.difference_with(other),
             Edit::SymmetricDifferenceWith => set.symmetric_difference_with(other),
+            Edit::InsertAll(list) => {
+                // On a copy, since the Rust has inserted the positions before the one that it panics at.
+                let mut marked = set.clone();
+                list.iter().for_each(|p| marked.insert(*p as usize));
+                *set = marked;
+            }
         }
         false
     })
@@ -101,14 +107,14 @@ fn panic_of(edit: Edit) -> u64 {
     }
 }
 
-fn edit(edit: Edit, case: &mut Case) -> Option<Outcome> {
-    let mut set = load(&case.a)?;
-    let other = if edit.reads_other() { load(&case.b)? } else { FixedBitSet::new() };
-    if !fits(length_after(edit, set.len(), other.len()), case.a.words.len()) {
+fn edit(edit: Edit, a: &mut Lent, b: &Lent) -> Option<Outcome> {
+    let mut set = load(a)?;
+    let other = if edit.reads_other() { load(b)? } else { FixedBitSet::new() };
+    if !fits(length_after(edit, set.len(), other.len()), a.words.len()) {
         return None;
     }
     let made = make_edit(edit, &mut set, &other);
-    store(&set, &mut case.a.words);
+    store(&set, &mut a.words);
     let number = if made.is_some() { 0 } else { panic_of(edit) };
     let (length, was) = (set.len(), made.unwrap_or(false));
     let answer = if matches!(edit, Edit::Put(_)) { Answer::Put { length, was } } else { Answer::Length(length) };
@@ -175,8 +181,10 @@ impl Engine for Reference {
     }
 
     fn call(&self, case: &mut Case) -> Option<Outcome> {
+        if let Some(call) = case.call.edit(&case.b.words) {
+            return edit(call, &mut case.a, &case.b);
+        }
         match case.call {
-            Call::Edit(call) => edit(call, case),
             Call::WithCapacity(n) => fresh(n, None, &mut case.a.words),
             Call::WithCapacityAndBlocks(n) => fresh(n, Some(&case.b.words), &mut case.a.words),
             Call::BitAnd => third(case, |a, b| a & b),
@@ -222,7 +230,7 @@ impl Engine for Reference {
                 _ => continue,
             };
             // 6 and 7 are not the reference's own, and a panic does nothing.
-            match Edit::of_five(five) {
+            match Edit::of_five(&history.positions, five) {
                 Some(edit) if fits(length_after(edit, set.len(), other.len()), size) => make_edit(edit, set, other),
                 _ => None,
             };

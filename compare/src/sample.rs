@@ -47,25 +47,26 @@ fn history(random: &mut Prng, a: usize, b: usize, walk: u64, made: usize) -> His
         // Every third set starts shorter and grows to its length.
         if length > 0 && random.once_in(3) {
             bits[on] = random.below(length);
-            calls.push(Edit::Grow(length).encode(on as u64));
+            calls.push(Edit::Grow(length).encode(0, on as u64));
         }
         for edit in filling(random, length) {
-            calls.push(edit.encode(on as u64));
+            calls.push(edit.encode(0, on as u64));
         }
     }
     let on = random.below(2);
     let length = [a, b][on];
-    for k in [made as u64 % Edit::CALLS, (made / 17) as u64 % Edit::CALLS, 13 + (made as u64 / 5) % 4] {
-        calls.push(featured(random, k, length).encode(if k >= 13 { random.word() % 2 } else { on as u64 }));
+    for k in [made as u64 % Edit::OF_NUMBERS, (made / 17) as u64 % Edit::OF_NUMBERS, 13 + (made as u64 / 5) % 4] {
+        calls.push(featured(random, k, length).encode(0, if k >= 13 { random.word() % 2 } else { on as u64 }));
     }
     let lean = 1 + random.below(3);
     let steps: Vec<u64> = (0..8 + random.below(6)).map(|_| u64::from(random.below(4) < lean)).collect();
     let out = vec![0; steps.len()];
     let buffer = vec![CALLERS; MOST / 64];
-    History { a_bits: bits[0], a_words: buffer.clone(), b_bits: bits[1], b_words: buffer, calls: calls.concat(), walk, steps, out }
+    let (calls, positions) = (calls.concat(), Vec::new());
+    History { a_bits: bits[0], a_words: buffer.clone(), b_bits: bits[1], b_words: buffer, calls, positions, walk, steps, out }
 }
 
-fn filling(random: &mut Prng, length: usize) -> Vec<Edit> {
+fn filling(random: &mut Prng, length: usize) -> Vec<Edit<'static>> {
     if length == 0 {
         return vec![Edit::InsertRange(0, 0)];
     }
@@ -77,7 +78,7 @@ fn filling(random: &mut Prng, length: usize) -> Vec<Edit> {
 }
 
 /// A call of a number near the edges of the set; sometimes one that the Rust panics at. No length above the most.
-fn featured(random: &mut Prng, code: u64, length: usize) -> Edit {
+fn featured(random: &mut Prng, code: u64, length: usize) -> Edit<'static> {
     let near = [0, 1, 63, 64, length / 2, length.saturating_sub(1), length, length + 1];
     let (x, y) = (random.one_of(&near), random.one_of(&near));
     let (x, y) = match code {
@@ -87,7 +88,7 @@ fn featured(random: &mut Prng, code: u64, length: usize) -> Edit {
         13.. => (0, 0),
         _ => (x, y),
     };
-    Edit::decode(code, x, y, random.yes()).expect("a code below the number of calls")
+    Edit::decode(&[], code, x, y, random.yes()).expect("a call of numbers alone")
 }
 
 fn line(history: &History) -> String {

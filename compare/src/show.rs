@@ -1,6 +1,6 @@
 //! Inputs and answers as text for a reader.
 
-use crate::cases::{Case, Edit, History, Lent, WalkCase};
+use crate::cases::{Call, Case, Edit, History, Lent, WalkCase};
 
 /// Words in hexadecimal; of many words, those that are not 0.
 pub fn words(words: &[u64]) -> String {
@@ -18,6 +18,13 @@ pub fn numbers(numbers: &[u64]) -> String {
     format!("[{}]", shown.join(", "))
 }
 
+/// Positions in decimal; of many, the first.
+fn positions(list: &[u64]) -> String {
+    let shown: Vec<String> = list.iter().take(40).map(u64::to_string).collect();
+    let more = if list.len() > shown.len() { format!(", .., {} in all", list.len()) } else { String::new() };
+    format!("[{}{more}]", shown.join(", "))
+}
+
 pub fn answers(answers: &[Option<usize>]) -> String {
     let shown: Vec<String> = answers.iter().take(40).map(|answer| answer.map_or("none".into(), |p| p.to_string())).collect();
     format!("[{}]", shown.join(", "))
@@ -28,12 +35,20 @@ fn lent(name: &str, lent: &Lent) -> String {
 }
 
 pub fn case(case: &Case) -> String {
-    format!("{:?}\n  {}\n  {}\n  out: {}", case.call, lent("a", &case.a), lent("b", &case.b), words(&case.out))
+    let second = if case.call == Call::InsertAll { format!("positions: {}", positions(&case.b.words)) } else { lent("b", &case.b) };
+    format!("{:?}\n  {}\n  {second}\n  out: {}", case.call, lent("a", &case.a), words(&case.out))
 }
 
 pub fn walk(case: &WalkCase) -> String {
     let steps: Vec<String> = case.steps.iter().map(|step| format!("{step:?}").to_lowercase()).collect();
     format!("{:?}, steps {}\n  {}\n  {}", case.walk, steps.join(" "), lent("a", &case.a), lent("b", &case.b))
+}
+
+fn call(edit: Edit) -> String {
+    match edit {
+        Edit::InsertAll(list) => format!("InsertAll({})", positions(list)),
+        edit => format!("{edit:?}"),
+    }
 }
 
 pub fn history(history: &History) -> String {
@@ -45,11 +60,14 @@ pub fn history(history: &History) -> String {
         words(&history.b_words)
     );
     for five in history.calls.chunks(5) {
-        match (five[0], Edit::of_five(five)) {
-            (0, Some(edit)) => text.push_str(&format!("  A: {edit:?}\n")),
-            (1, Some(edit)) => text.push_str(&format!("  B: {edit:?}\n")),
+        match (five[0], Edit::of_five(&history.positions, five)) {
+            (0, Some(edit)) => text.push_str(&format!("  A: {}\n", call(edit))),
+            (1, Some(edit)) => text.push_str(&format!("  B: {}\n", call(edit))),
             _ => text.push_str(&format!("  no call: {five:?}\n")),
         }
+    }
+    if !history.positions.is_empty() {
+        text.push_str(&format!("  positions {}\n", positions(&history.positions)));
     }
     text.push_str(&format!("  walk {}, steps {:?}, room for {} answers", history.walk, history.steps, history.out.len()));
     text

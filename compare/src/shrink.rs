@@ -14,17 +14,36 @@ fn below(n: usize) -> Vec<usize> {
     smaller
 }
 
+/// The parts of a list of n, the largest first, down to those of `unit`.
+fn parts(n: usize, unit: usize) -> Vec<(usize, usize)> {
+    let mut parts = Vec::new();
+    let mut size = n.div_ceil(unit);
+    while size > 0 {
+        parts.extend((0..n).step_by(size * unit).map(|start| (start, (start + size * unit).min(n))));
+        size /= 2;
+    }
+    parts
+}
+
+/// The least part that is left out of n positions: of many, no small one.
+fn unit(n: usize) -> usize {
+    n.div_ceil(64).max(1)
+}
+
 /// Lists with a part left out, the largest parts first.
 fn shorter<T: Clone>(list: &[T], unit: usize) -> Vec<Vec<T>> {
+    parts(list.len(), unit).into_iter().map(|(start, end)| [&list[..start], &list[end..]].concat()).collect()
+}
+
+/// Lists with one of the first positions lower.
+fn lower(list: &[u64]) -> Vec<Vec<u64>> {
     let mut smaller = Vec::new();
-    let mut size = list.len().div_ceil(unit);
-    while size > 0 {
-        for start in (0..list.len()).step_by(size * unit) {
-            let mut rest = list[..start].to_vec();
-            rest.extend_from_slice(&list[(start + size * unit).min(list.len())..]);
-            smaller.push(rest);
+    for k in 0..list.len().min(8) {
+        for less in below(list[k] as usize) {
+            let mut other = list.to_vec();
+            other[k] = less as u64;
+            smaller.push(other);
         }
-        size /= 2;
     }
     smaller
 }
@@ -89,8 +108,8 @@ fn without_word(set: &Lent, k: usize) -> Option<Lent> {
 fn with_numbers(call: Call, f: &mut dyn FnMut(usize) -> usize) -> Call {
     match call {
         Call::Edit(edit) => {
-            let [_, code, x, y, z] = edit.encode(0);
-            Call::Edit(Edit::decode(code, f(x as usize), f(y as usize), z != 0).unwrap_or(edit))
+            let [_, code, x, y, z] = edit.encode(0, 0);
+            Call::Edit(Edit::decode(&[], code, f(x as usize), f(y as usize), z != 0).unwrap_or(edit))
         }
         Call::WithCapacity(n) => Call::WithCapacity(f(n)),
         Call::WithCapacityAndBlocks(n) => Call::WithCapacityAndBlocks(f(n)),
@@ -132,6 +151,12 @@ pub fn case(case: &Case) -> Vec<Case> {
     let mut smaller = Vec::new();
     for (a, b) in pairs(&case.a, &case.b) {
         smaller.push(Case { a, b, ..case.clone() });
+    }
+    if case.call == Call::InsertAll {
+        let list = &case.b.words;
+        for words in shorter(list, unit(list.len())).into_iter().chain(lower(list)) {
+            smaller.push(Case { b: Lent { length: 0, words }, ..case.clone() });
+        }
     }
     for out in simpler_words(&case.out) {
         smaller.push(Case { out, ..case.clone() });
@@ -177,6 +202,18 @@ pub fn walk(case: &WalkCase) -> Vec<WalkCase> {
     smaller
 }
 
+/// The history without a part of its positions; the calls name what is left of theirs.
+fn without_positions(history: &History, start: usize, end: usize) -> History {
+    let mut smaller = history.clone();
+    smaller.positions.drain(start..end);
+    for five in smaller.calls.chunks_exact_mut(5).filter(|five| five[1] == 17) {
+        for place in &mut five[2..4] {
+            *place -= place.saturating_sub(start as u64).min((end - start) as u64);
+        }
+    }
+    smaller
+}
+
 pub fn history(history: &History) -> Vec<History> {
     let mut smaller = Vec::new();
     for a_bits in below(history.a_bits) {
@@ -187,6 +224,13 @@ pub fn history(history: &History) -> Vec<History> {
     }
     for calls in shorter(&history.calls, 5) {
         smaller.push(History { calls, ..history.clone() });
+    }
+    let listed = history.positions.len();
+    for (start, end) in parts(listed, unit(listed)) {
+        smaller.push(without_positions(history, start, end));
+    }
+    for positions in lower(&history.positions) {
+        smaller.push(History { positions, ..history.clone() });
     }
     for steps in shorter(&history.steps, 1) {
         smaller.push(History { steps, ..history.clone() });

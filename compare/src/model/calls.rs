@@ -1,12 +1,14 @@
-//! Every call of document 01 with its questions, its answer and what it writes.
+//! Every call of document 01, and `insert_all` of document 02, with its questions, its answer and what it writes.
 
 use super::members::{bit, has, read, word, words_of, write, Members};
 use super::{edits, questions, walks, words};
 use crate::cases::{accepted, Answer, Call, Case, Edit, Lent, Outcome, Record, Walk};
 
 pub fn call(case: &mut Case) -> Outcome {
+    if let Some(edit) = case.call.edit(&case.b.words) {
+        return make_edit(edit, &mut case.a, &case.b);
+    }
     match case.call {
-        Call::Edit(edit) => make_edit(edit, &mut case.a, &case.b),
         Call::WithCapacity(n) => fresh(n, &[], &mut case.a.words),
         Call::WithCapacityAndBlocks(n) => fresh(n, &case.b.words, &mut case.a.words),
         Call::BitAnd => third(case, true, |x, y| x && y),

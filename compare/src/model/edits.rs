@@ -32,6 +32,7 @@ pub fn apply(edit: Edit, set: &mut Members, other: &[bool]) -> bool {
             lengthen(set, other.len());
             join(set, other, |x, y| x != y);
         }
+        Edit::InsertAll(list) => list.iter().for_each(|p| set[*p as usize] = true),
     }
     false
 }

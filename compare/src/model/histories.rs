@@ -28,7 +28,7 @@ pub fn run(history: &mut History) -> Ran {
     let mut a = vec![false; history.a_bits];
     let mut b = vec![false; history.b_bits];
     for five in history.calls.chunks_exact(5) {
-        match (five[0], Edit::of_five(five)) {
+        match (five[0], Edit::of_five(&history.positions, five)) {
             (0, Some(edit)) => make(edit, &mut a, history.a_words.len(), &b),
             (1, Some(edit)) => make(edit, &mut b, history.b_words.len(), &a),
             _ => {}

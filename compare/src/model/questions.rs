@@ -40,6 +40,11 @@ pub fn position(p: usize, length: usize) -> u64 {
     ask(p < length, 4)
 }
 
+/// 4 of every position of a list.
+pub fn positions(list: &[u64], length: usize) -> u64 {
+    ask(list.iter().all(|p| *p < length as u64), 4)
+}
+
 /// 5.
 pub fn range(start: usize, end: usize, length: usize) -> u64 {
     ask(start <= end && end <= length, 5)
@@ -69,6 +74,7 @@ pub fn of_edit(edit: Edit, length: usize, size: usize, other: usize) -> u64 {
         Edit::Grow(n) => new_length(length.max(n) as u128, size),
         Edit::GrowAndInsert(p) => new_length((length as u128).max(p as u128 + 1), size),
         Edit::UnionWith | Edit::SymmetricDifferenceWith => new_length(length.max(other) as u128, size),
+        Edit::InsertAll(list) => positions(list, length),
         Edit::Clear | Edit::IntersectWith | Edit::DifferenceWith => 0,
     }
 }
