@@ -35,11 +35,11 @@ fn shorter<T: Clone>(list: &[T], unit: usize) -> Vec<Vec<T>> {
     parts(list.len(), unit).into_iter().map(|(start, end)| [&list[..start], &list[end..]].concat()).collect()
 }
 
-/// Lists with one of the first positions lower.
+/// Lists with a position lower, one of the first that are not 0.
 fn lower(list: &[u64]) -> Vec<Vec<u64>> {
     let mut smaller = Vec::new();
-    for k in 0..list.len().min(8) {
-        for less in below(list[k] as usize) {
+    for (k, p) in list.iter().enumerate().filter(|(_, p)| **p != 0).take(8) {
+        for less in below(*p as usize) {
             let mut other = list.to_vec();
             other[k] = less as u64;
             smaller.push(other);
