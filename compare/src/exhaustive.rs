@@ -54,7 +54,7 @@ fn lent(set: &Lent, size: usize) -> Lent {
     Lent { length: set.length, words }
 }
 
-/// Those of the set, just past it, at a word's edge, and none that a set can have.
+/// Positions of the set, just past it, at a word's edge, and one that no set has.
 fn positions(set: &Lent, from: usize) -> Vec<usize> {
     let mut positions: Vec<usize> = (from..=set.length + 1).chain([0, 63, 64, usize::MAX]).collect();
     positions.sort_unstable();

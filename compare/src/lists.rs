@@ -39,7 +39,7 @@ pub fn long(n: usize) -> Vec<Vec<u64>> {
     lists
 }
 
-/// A list of which all are below the length, some more than once; once in three times any numbers are among them.
+/// A list of positions below the length, some more than once; once in three times any number is put at the first place, a middle one or the last.
 pub fn random_list(random: &mut Prng, length: usize) -> Vec<u64> {
     let mut list = Vec::new();
     for _ in 0..random.few(8, 300) {

@@ -9,8 +9,9 @@ use lent_bit_sets::ffi::*;
 use lent_bit_sets::FixedBitSet;
 use std::hint::black_box;
 
-/// Calls on single positions in a run, on short ranges, and on whole sets.
+/// Calls on single positions in a run, positions of a list, calls on short ranges, and on whole sets.
 const POSITIONS: usize = 1_000;
+const LISTED: usize = 10_000;
 const SHORT: usize = 1_000;
 const WHOLE: usize = 20;
 
@@ -73,6 +74,20 @@ pub fn positions(bench: &mut Bench, random: &mut Prng, length: usize) {
     });
     row!("contains, bindings", &mut lent, &inputs, |set: &mut FixedBitSet, p| usize::from(set.contains(p)), |set: &mut Rust, p| {
         usize::from(set.contains(p))
+    });
+}
+
+/// A list in one call, beside a loop over it.
+pub fn lists(bench: &mut Bench, random: &mut Prng, length: usize) {
+    let (mut set, _) = pair(random, length, 2);
+    let list: Vec<u64> = (0..LISTED).map(|_| random.below(length) as u64).collect();
+    let (s, w, n) = set.raw_mut();
+    let rust = &mut set.rust;
+    // SAFETY: the pointers and the numbers of words are those of vectors that live as long, and nothing else reads or writes the set's meanwhile.
+    let ours = || unsafe { again(1, || edited(fbs_insert_all(s, w, n, list.as_ptr(), list.len()))) };
+    bench.row("insert_all, 10,000 positions", length, LISTED, ours, || {
+        let set = black_box(&mut *rust);
+        list.iter().for_each(|p| set.insert(*p as usize));
     });
 }
 

@@ -40,7 +40,7 @@ pub struct Bench {
 
 pub fn run(seed: u64) {
     let counts = counted::counts(seed);
-    println!("Least time of many runs in nanoseconds, and instructions; each of one call, or of one position of a walk (seed {seed}).");
+    println!("Least time of many runs in nanoseconds, and instructions; each of one call, or of one position of a list or a walk (seed {seed}).");
     if counts.is_empty() {
         println!("No instructions: valgrind is not at hand, or could not run this program.");
     }
@@ -62,6 +62,10 @@ fn all(bench: &mut Bench, seed: u64) {
     let mut random = Prng::new(seed);
     for length in LENGTHS {
         calls::positions(bench, &mut random, length);
+    }
+    for length in LENGTHS {
+        // Random numbers of its own, so that the rows after it are those that they were without it.
+        calls::lists(bench, &mut Prng::new(seed), length);
     }
     for length in LENGTHS {
         calls::ranges(bench, &mut random, length);

@@ -1,6 +1,6 @@
-//! Document 01 as a program: a set is a row of yes and no, every question is asked in its order, every list is written out.
+//! Document 01, and `insert_all` of document 02, as a program: a set is a row of yes and no, every question is asked in its order, every list is written out.
 //!
-//! Written from the document's text alone. It knows no word operations beyond "bit p mod 64 of word p / 64", and is slow.
+//! Written from the documents' text alone. It knows no word operations beyond "bit p mod 64 of word p / 64", and is slow.
 
 mod calls;
 mod edits;
