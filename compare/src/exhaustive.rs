@@ -1,5 +1,5 @@
-//! Every set of 0 to 6 bits, at every position, range and short list of positions, every pair of such sets, every mix of steps, and every short history; and the same sets
-//! across a word's edge, from position 61 on.
+//! Every set of 0 to 6 bits, at every position, range and short list of positions, every pair of such sets, every mix of steps, and every short history;
+//! and the same sets across a word's edge, from position 61 on.
 
 use crate::cases::{Call, Case, Edit, History, Lent, Record, Step, Walk, WalkCase};
 use crate::inputs::{at_position, one, over_range, set, to_length, CALLERS, OF_TWO, PLAIN};
@@ -235,7 +235,7 @@ fn history(a_bits: usize, b_bits: usize, calls: &[[u64; 5]], made: usize) -> His
     }
 }
 
-/// The positions of which the calls of lists name parts: sets of up to 2 bits have them all, or not the first, a middle one or the last.
+/// The positions of which calls name parts. A set of up to 2 bits has all of a part, or not its first, a middle one or its last.
 const LISTED: [u64; 5] = [2, 0, 1, 1, 2];
 
 /// Every call with positions 0 to 2 and with every part of `LISTED`, on both sets; and with parts that it does not have.

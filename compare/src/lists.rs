@@ -52,15 +52,15 @@ pub fn random_list(random: &mut Prng, length: usize) -> Vec<u64> {
     list
 }
 
-/// Histories with each short and each long list, at the edges of words; and with parts of none, parts that begin or end within the list, and parts that
-/// it does not have.
+/// Histories with each short and each long list, at the edges of words; and with the list among others, empty parts, and parts that the lent list does
+/// not have.
 pub fn histories(judge: &mut Judge) -> Result<(), Difference> {
     for n in [0, 1, 63, 64, 65, MOST - 1, MOST] {
         for list in short(n).into_iter().chain(long(n)) {
             let size = list.len();
             let whole = Edit::InsertAll(&list).encode(0, 0);
             judge.check_history(&of_calls(n, &[whole], list.clone()))?;
-            // The list after another and before one more.
+            // The list after another and before one more, on the other set.
             let parts = [(0, 1), (1, 1 + size), (1 + size, 2 + size), (0, 0), (2, 1), (0, 3 + size), (2 + size, 3 + size), (usize::MAX, usize::MAX)];
             let calls = parts.map(|(x, y)| [1, 17, x as u64, y as u64, 0]);
             let positions = [vec![0], list, vec![n.saturating_sub(1) as u64]].concat();
