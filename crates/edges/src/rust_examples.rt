@@ -5,7 +5,7 @@ use crate::report::found;
 use crate::report::told;
 use comparisons::eq;
 use edits::insert;
-use edits::insert_range;
+use range_edits::insert_range;
 use sets::Edited;
 use sets::FixedBitSet;
 use sets::Told;
