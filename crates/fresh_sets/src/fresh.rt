@@ -1,17 +1,17 @@
-use crate::answers::Edited;
-use crate::fixed_bit_set::FixedBitSet;
-use crate::questions::ask_new;
-use crate::sizes::blocks_of;
 use blocks::block;
 use blocks::change_blocks;
 use blocks::copy_blocks;
 use blocks::lesser;
+use sets::Edited;
+use sets::FixedBitSet;
+use sets::ask_new;
+use sets::blocks_of;
 ghost use mathlib.Core.Path.{_≡_};
 ghost use Prim.Native.Nat.{_≤_};
 ghost use lib.ListN.{length};
 ghost use Rattle.sets.specs.Members.{wordsOf, read, write, setOf, empty};
 ghost use Rattle.sets.specs.Outcomes.{outcome};
 ghost use Rattle.sets.specs.Rules.{withCapacityRule, withCapacityAndBlocksRule};
 
 // A fresh set of `bits` bits with no members. Asks 6 and 7.
 pub fn with_capacity(bits: usize, words: &mut [u64]) -> Edited

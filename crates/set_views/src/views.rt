@@ -1,11 +1,11 @@
-use crate::answers::Counted;
-use crate::answers::Told;
-use crate::fixed_bit_set::FixedBitSet;
-use crate::questions::check;
-use crate::sizes::blocks_of;
+use sets::Counted;
+use sets::FixedBitSet;
+use sets::Told;
+use sets::blocks_of;
+use sets::check;
 ghost use mathlib.Core.Path.{_≡_};
 ghost use Rattle.sets.specs.Questions.{questions};
 ghost use Rattle.sets.specs.Rules.{lenRule, isEmptyRule, slicePart, asSliceRule};
 
 // The length in bits. Asks 1 to 3.
 pub fn len(set: FixedBitSet, words: &[u64]) -> Counted

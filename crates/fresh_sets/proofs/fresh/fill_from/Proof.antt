@@ -1,4 +1,4 @@
--- `sets::fill_from` meets its contract. Assumes nothing.
+-- `fresh_sets::fill_from` meets its contract. Assumes nothing.
 use mathlib.Core.Path.{_≡_, ap, _∙_}
 use Prim.Native.Nat.{_-_, _/_, _%_, _^_}
 use denote.Ref.{now}
@@ -6,12 +6,12 @@ use lib.ListN.{length, length-set}
 use lib.Seq.{getD-set-same, getD-set-other}
 use Rattle.word_bits.specs.LowMask.{lowMask}
 use Rattle.word_bits.proofs.ShiftMasks.{shifted-down}
 use Rattle.sets.specs.Members.{wordsOf}
-use Rattle.sets.proofs.CopyLaws.{copied, length-copied, copied-in, copied-out, blocks-write}
+use Rattle.fresh_sets.proofs.CopyLaws.{copied, length-copied, copied-in, copied-out, blocks-write}
 use borrow.Author.Needs.{needs}
 use native.Mathlib.Omega.{arith}
-use Rattle.sets.proofs.fresh.fill_from.Statement.{statement}
-use Rattle.sets.proofs.fresh.fill_from.Tie as tie
+use Rattle.fresh_sets.proofs.fresh.fill_from.Statement.{statement}
+use Rattle.fresh_sets.proofs.fresh.fill_from.Tie as tie
 
 -- what the two sweeps leave
 known : (c : tie.After-slice-known3) → c .before .before .change-blocks .last .0

@@ -1,9 +1,9 @@
--- `sets::len` meets its contract. Assumes nothing.
+-- `set_views::len` meets its contract. Assumes nothing.
 use mathlib.Core.Path.{sym, refl, _∙_}
 use Rattle.sets.proofs.OutcomeLaws.{given-no, given-yes}
 use borrow.Author.Needs.{needs}
-use Rattle.sets.proofs.views.len.Statement.{statement}
-use Rattle.sets.proofs.views.len.Tie as tie
+use Rattle.set_views.proofs.views.len.Statement.{statement}
+use Rattle.set_views.proofs.views.len.Tie as tie
 
 returns : tie.Need-returns
 returns c = given-no _ _ (c .before .check .ensures) (c .if1 .taken)

@@ -1,13 +1,13 @@
--- `sets::as_slice` meets its contract. Assumes nothing.
+-- `set_views::as_slice` meets its contract. Assumes nothing.
 use mathlib.Core.Path.{sym, ap, _∙_}
 use denote.Ref.{now}
 use lib.Seq.{length-take-le}
 use borrow.Author.Needs.{needs}
 use Rattle.sets.specs.Rules.{firstWords}
 use Rattle.sets.proofs.OutcomeLaws.{given-no, given-yes}
 use Rattle.sets.proofs.QuestionLaws.{valid}
-use Rattle.sets.proofs.views.as_slice.Statement.{statement}
-use Rattle.sets.proofs.views.as_slice.Tie as tie
+use Rattle.set_views.proofs.views.as_slice.Statement.{statement}
+use Rattle.set_views.proofs.views.as_slice.Tie as tie
 
 returns : tie.Need-returns
 returns c =

@@ -1,14 +1,14 @@
--- `sets::with_capacity_and_blocks` meets its contract. Assumes nothing.
+-- `fresh_sets::with_capacity_and_blocks` meets its contract. Assumes nothing.
 use mathlib.Core.Path.{sym, ap₂, _∙_}
 use mathlib.Core.List.{List}
 use Prim.Native.Nat.{ℕ}
 use Rattle.sets.specs.Members.{read}
 use Rattle.sets.specs.declared.fixed_bit_set.FixedBitSet.{FixedBitSet}
 use Rattle.sets.proofs.OutcomeLaws.{given-yes, edited-no}
 use Rattle.sets.proofs.QuestionLaws.{room}
 use borrow.Author.Needs.{needs}
-use Rattle.sets.proofs.fresh.with_capacity_and_blocks.Statement.{statement}
-use Rattle.sets.proofs.fresh.with_capacity_and_blocks.Tie as tie
+use Rattle.fresh_sets.proofs.fresh.with_capacity_and_blocks.Statement.{statement}
+use Rattle.fresh_sets.proofs.fresh.with_capacity_and_blocks.Tie as tie
 
 returns : tie.Need-returns
 returns c =

@@ -1,7 +1,7 @@
--- `sets::as_slice_number` meets its contract. Assumes nothing.
+-- `set_views::as_slice_number` meets its contract. Assumes nothing.
 use borrow.Author.Needs.{needs}
-use Rattle.sets.proofs.views.as_slice_number.Statement.{statement}
-use Rattle.sets.proofs.views.as_slice_number.Tie as tie
+use Rattle.set_views.proofs.views.as_slice_number.Statement.{statement}
+use Rattle.set_views.proofs.views.as_slice_number.Tie as tie
 
 returns : tie.Need-returns
 returns c = c .check .ensures

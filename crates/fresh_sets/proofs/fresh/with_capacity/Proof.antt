@@ -1,17 +1,17 @@
--- `sets::with_capacity` meets its contract. Assumes nothing.
+-- `fresh_sets::with_capacity` meets its contract. Assumes nothing.
 use mathlib.Core.Path.{sym, ap, ap₂, _∙_}
 use mathlib.Core.List.{List}
 use Prim.Native.Nat.{ℕ}
 use denote.Ref.{now}
 use Rattle.blocks.specs.Sweeps.{swept}
 use Rattle.sets.specs.declared.fixed_bit_set.FixedBitSet.{FixedBitSet}
 use Rattle.blocks.proofs.BlockLaws.{zeroed}
 use Rattle.sets.proofs.ZeroLaws.{zeroed-write}
 use Rattle.sets.proofs.OutcomeLaws.{given-yes, edited-no}
 use Rattle.sets.proofs.QuestionLaws.{room}
 use borrow.Author.Needs.{needs}
-use Rattle.sets.proofs.fresh.with_capacity.Statement.{statement}
-use Rattle.sets.proofs.fresh.with_capacity.Tie as tie
+use Rattle.fresh_sets.proofs.fresh.with_capacity.Statement.{statement}
+use Rattle.fresh_sets.proofs.fresh.with_capacity.Tie as tie
 
 returns : tie.Need-returns
 returns c =
