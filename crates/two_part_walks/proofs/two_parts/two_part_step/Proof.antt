@@ -1,4 +1,4 @@
--- `walks::two_part_step` meets its contract. Assumes nothing.
+-- `two_part_walks::two_part_step` meets its contract. Assumes nothing.
 use mathlib.Core.Path.{_≡_, sym, _∙_}
 use denote.Ref.{now}
 use lib.Seq.{length-take-le}
@@ -6,10 +6,10 @@ use borrow.Author.Needs.{needs}
 use Rattle.sets.specs.Questions.{pairQuestions}
 use Rattle.sets.proofs.OutcomeLaws.{given-no}
 use Rattle.sets.proofs.QuestionLaws.{first-both, BothValid, both-valid}
 use Rattle.walks.proofs.PairLaws.{placed-first, placed-second}
 use Rattle.walks.proofs.WalkLaws.{pair-taken}
-use Rattle.walks.proofs.two_parts.two_part_step.Statement.{statement}
-use Rattle.walks.proofs.two_parts.two_part_step.Tie as tie
+use Rattle.two_part_walks.proofs.two_parts.two_part_step.Statement.{statement}
+use Rattle.two_part_walks.proofs.two_parts.two_part_step.Tie as tie
 
 returns : tie.Need-returns
 returns c = given-no (λ m. record { number = m; at = _; one = _; two = _ }) _ (c .before .before .before .pre) (c .if1 .taken)

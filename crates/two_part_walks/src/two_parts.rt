@@ -1,5 +1,3 @@
-use crate::answers::SteppedPair;
-use crate::rows::step_rows;
 use parts::End;
 use parts::Selection;
 use sets::FixedBitSet;
@@ -7,11 +5,13 @@ use sets::Part;
 use sets::Position;
 use sets::blocks_of;
 use sets::check_pair;
+use walks::SteppedPair;
+use walks::step_rows;
 ghost use mathlib.Core.Path.{_≡_};
 ghost use Prim.Native.Nat.{ℕ};
 ghost use Rattle.sets.specs.Members.{read};
 ghost use Rattle.parts.specs.Selections.{selected};
 ghost use Rattle.walks.specs.Rules.{pairStep, steppedPair, unionNextRule, unionNextBackRule, symmetricDifferenceNextRule, symmetricDifferenceNextBackRule};
 ghost use Rattle.sets.specs.Questions.{pairQuestions};
 
 // `number` answers the questions of the step. The second part is what `second` selects of the second set, given the first.
