@@ -1,13 +1,13 @@
 use export_answers::FbsFound;
 use export_answers::found;
+use range_counts::count_ones;
+use range_counts::count_zeroes;
 use sets::Counted;
 use sets::FixedBitSet;
 use sets::Told;
 use tests::contains;
 use tests::contains_all_in_range;
 use tests::contains_any_in_range;
-use tests::count_ones;
-use tests::count_zeroes;
 use tests::is_clear;
 use tests::is_full;
 use tests::maximum;

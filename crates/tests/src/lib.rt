@@ -1,12 +1,9 @@
-// Tests, counts and extremes of one set.
-mod counts;
+// Tests and extremes of one set. The rules of the counts of a range are here too.
 mod extremes;
 mod positions;
 mod ranges;
 mod scans;
 
-pub use counts::count_ones;
-pub use counts::count_zeroes;
 pub use extremes::maximum;
 pub use extremes::minimum;
 pub use positions::contains;

@@ -1,4 +1,4 @@
--- `tests::ones_of` meets its contract. Assumes nothing.
+-- `range_counts::ones_of` meets its contract. Assumes nothing.
 use mathlib.Core.Bool.{Bool}
 use mathlib.Core.Path.{_≡_, ap, ap₂, _∙_}
 use Prim.Native.Nat.{ℕ, _+_, _-_}
@@ -7,12 +7,12 @@ use Rattle.word_bits.specs.Counts.{count}
 use Rattle.word_bits.proofs.Ones.{count-le}
 use Rattle.masks.specs.Ranges.{endBlock}
 use Rattle.sets.specs.Members.{bitOf}
-use Rattle.tests.proofs.CountLaws.{onesAt, ones-empty, ones-one, ones-three}
+use Rattle.range_counts.proofs.CountLaws.{onesAt, ones-empty, ones-one, ones-three}
 use Rattle.tests.proofs.PartLaws.{meets, inRange}
 use borrow.Author.Needs.{needs}
 use native.Mathlib.Omega.{arith}
-use Rattle.tests.proofs.counts.ones_of.Statement.{statement}
-use Rattle.tests.proofs.counts.ones_of.Tie as tie
+use Rattle.range_counts.proofs.counts.ones_of.Statement.{statement}
+use Rattle.range_counts.proofs.counts.ones_of.Tie as tie
 
 returns : tie.Need-returns
 returns c = ones-empty _ _ _ (rw (c .before .before .by-shifts .ensures) at (c .if1 .taken))

@@ -19,10 +19,10 @@ use Rattle.sets.specs.Members.{bitOf, read}
 use Rattle.sets.specs.declared.fixed_bit_set.FixedBitSet.{FixedBitSet}
 use Rattle.sets.proofs.ReadLaws.{read-below}
 use Rattle.sets.proofs.WordLaws.{bit-at}
 use Rattle.tests.proofs.PartLaws.{part-below, part-above, part-inside, masked-digit, meets, inRange}
 use Rattle.tests.proofs.RowLaws.{count-clip, count-split, count-covers}
 use Rattle.tests.specs.Tests.{onesIn, zeroesIn}
-use Rattle.tests.proofs.RunLaws.{run, one-word, three-parts}
+use Rattle.range_counts.proofs.RunLaws.{run, one-word, three-parts}
 
 -- ---- the words of a range
 

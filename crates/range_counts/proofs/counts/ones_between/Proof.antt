@@ -1,4 +1,4 @@
--- `tests::ones_between` meets its contract. The sum is the ones of the words first..k. Assumes nothing.
+-- `range_counts::ones_between` meets its contract. The sum is the ones of the words first..k. Assumes nothing.
 use mathlib.Core.Path.{_≡_, ap, ap₂, _∙_}
 use Prim.Native.Nat.{ℕ, _≤_, _-_, _+_, _*_, max}
 use denote.Ref.{now}
@@ -6,11 +6,11 @@ use lib.ListN.{getD}
 use Rattle.word_bits.specs.Digits.{digit}
 use Rattle.word_bits.proofs.Ones.{count-le}
 use Rattle.sets.specs.Members.{bitOf}
-use Rattle.tests.proofs.RunLaws.{run, run-none, run-more, word-ones}
+use Rattle.range_counts.proofs.RunLaws.{run, run-none, run-more, word-ones}
 use borrow.Author.Needs.{needs}
 use native.Mathlib.Omega.{arith}
-use Rattle.tests.proofs.counts.ones_between.Statement.{statement}
-use Rattle.tests.proofs.counts.ones_between.Tie as tie
+use Rattle.range_counts.proofs.counts.ones_between.Statement.{statement}
+use Rattle.range_counts.proofs.counts.ones_between.Tie as tie
 
 abbrev Inv-loop : tie.InvT-loop
 Inv-loop words first end sum₀ k₀ sum k = (first ≤ k) × (k ≤ max first end) × (sum ≡ run (bitOf words) (first * 64) ((k - first) * 64))

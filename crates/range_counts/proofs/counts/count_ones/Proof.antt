@@ -1,13 +1,13 @@
--- `tests::count_ones` meets its contract. Assumes nothing.
+-- `range_counts::count_ones` meets its contract. Assumes nothing.
 use mathlib.Core.Path.{sym, ap, _∙_}
 use Rattle.sets.proofs.OutcomeLaws.{given-no, given-yes}
 use Prim.Native.Nat.{ℕ}
 use denote.Ref.{now}
 use Rattle.sets.proofs.RangeQuestionLaws.{held-range}
-use Rattle.tests.proofs.CountLaws.{ones-is}
+use Rattle.range_counts.proofs.CountLaws.{ones-is}
 use borrow.Author.Needs.{needs}
-use Rattle.tests.proofs.counts.count_ones.Statement.{statement}
-use Rattle.tests.proofs.counts.count_ones.Tie as tie
+use Rattle.range_counts.proofs.counts.count_ones.Statement.{statement}
+use Rattle.range_counts.proofs.counts.count_ones.Tie as tie
 
 returns : tie.Need-returns
 returns c = given-no _ _ (c .before .check-range .ensures) (c .if1 .taken)

@@ -1,16 +1,16 @@
--- `tests::count_zeroes` meets its contract. Assumes nothing.
+-- `range_counts::count_zeroes` meets its contract. Assumes nothing.
 use mathlib.Core.Path.{_≡_, sym, ap, _∙_}
 use Rattle.sets.proofs.OutcomeLaws.{given-no, given-yes}
 use Prim.Native.Nat.{ℕ, _-_}
 use denote.Ref.{now}
 use Rattle.sets.specs.Members.{read}
 use Rattle.tests.specs.Tests.{zeroesIn}
 use Rattle.sets.proofs.RangeQuestionLaws.{held-range}
-use Rattle.tests.proofs.CountLaws.{ones-and-zeroes}
+use Rattle.range_counts.proofs.CountLaws.{ones-and-zeroes}
 use borrow.Author.Needs.{needs}
 use native.Mathlib.Omega.{arith}
-use Rattle.tests.proofs.counts.count_zeroes.Statement.{statement}
-use Rattle.tests.proofs.counts.count_zeroes.Tie as tie
+use Rattle.range_counts.proofs.counts.count_zeroes.Statement.{statement}
+use Rattle.range_counts.proofs.counts.count_zeroes.Tie as tie
 
 returns : tie.Need-returns
 returns c = given-no _ _ (c .before .check-range .ensures) (c .if1 .taken)
