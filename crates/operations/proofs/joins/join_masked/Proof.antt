@@ -1,14 +1,14 @@
--- `two_sets::joins::join_masked` meets its contract. The loop has stored the words 0..k. Assumes nothing.
+-- `operations::joins::join_masked` meets its contract. The loop has stored the words 0..k. Assumes nothing.
 use mathlib.Core.Path.{ap}
 use Prim.Native.Nat.{ℕ, _≤_, _-_}
 use denote.Ref.{now}
 use lib.ListN.{getD}
 use Rattle.blocks.proofs.LoopLaws.{Stored, stored-none, stored-more, stored-rest, stored-swept}
-use Rattle.two_sets.specs.Operations.{maskedJoin}
+use Rattle.operations.specs.Operations.{maskedJoin}
 use borrow.Author.Needs.{needs}
 use native.Mathlib.Omega.{arith}
-use Rattle.two_sets.proofs.joins.join_masked.Statement.{statement}
-use Rattle.two_sets.proofs.joins.join_masked.Tie as tie
+use Rattle.operations.proofs.joins.join_masked.Statement.{statement}
+use Rattle.operations.proofs.joins.join_masked.Tie as tie
 
 abbrev Inv-loop : tie.InvT-loop
 Inv-loop words₀ other end first second both stop k₀ words k = (k ≤ stop) × Stored 0 k (λ i. maskedJoin first second both (getD words₀ i 0) (getD other i 0)) words₀ words

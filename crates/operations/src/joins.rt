@@ -6,7 +6,7 @@ ghost use mathlib.Core.Path.{_≡_};
 ghost use Prim.Native.Nat.{ℕ, min};
 ghost use lib.ListN.{length, getD};
 ghost use Rattle.blocks.specs.Sweeps.{swept};
-ghost use Rattle.two_sets.specs.Operations.{joinedWord, maskedJoin};
+ghost use Rattle.operations.specs.Operations.{joinedWord, maskedJoin};
 
 // Every operation on two bits is an exclusive or of the first, the second and both, each taken or left out:
 // the masks are all ones or 0, so that one loop with no branch serves the four.
@@ -23,8 +23,8 @@ fn join_masked(words: &mut [u64], other: &[u64], end: usize, first: u64, second:
     }
 }
 
-// The words below `end` that both slices have become the join of the two.
-pub(crate) fn join_common(words: &mut [u64], other: &[u64], end: usize, operation: Operation)
+// The words below `end` that both slices have become the join of the two. Asks nothing: for the calls of this library, which have asked.
+pub fn join_common(words: &mut [u64], other: &[u64], end: usize, operation: Operation)
     ensures { λ r. ⌜ now (words .exit) ≡ swept 0 (min end (length (now (other .entry)))) (λ (k w : ℕ). joinedWord operation w (getD (now (other .entry)) k 0)) (now (words .entry)) ⌝ }
 {
     match operation {
@@ -35,8 +35,8 @@ pub(crate) fn join_common(words: &mut [u64], other: &[u64], end: usize, operatio
     }
 }
 
-// The words first..end, where the second set has none.
-pub(crate) fn join_first_alone(words: &mut [u64], first: usize, end: usize, operation: Operation)
+// The words first..end, where the second set has none. Asks nothing, as the one above.
+pub fn join_first_alone(words: &mut [u64], first: usize, end: usize, operation: Operation)
     ensures { λ r. ⌜ now (words .exit) ≡ swept first end (λ (k w : ℕ). joinedWord operation w 0) (now (words .entry)) ⌝ }
 {
     match operation {
@@ -47,8 +47,8 @@ pub(crate) fn join_first_alone(words: &mut [u64], first: usize, end: usize, oper
     }
 }
 
-// The words first..end, where the first set has none.
-pub(crate) fn join_second_alone(
+// The words first..end, where the first set has none. Asks nothing, as the ones above.
+pub fn join_second_alone(
     words: &mut [u64],
     other: &[u64],
     first: usize,

@@ -12,9 +12,9 @@ use Rattle.masks.specs.Ranges.{covers}
 use Rattle.masks.proofs.RangeLaws.{covers-yes, covers-below, covers-above}
 use Rattle.blocks.specs.Sweeps.{swept}
 use Rattle.blocks.proofs.BlockLaws.{length-swept, swept-in, swept-out, swept-is, swept-ext, swept-same, zeroed, zeroed-is}
-use Rattle.two_sets.specs.Operations.{joined, joinedWord, joinedBy, padded}
-use Rattle.two_sets.specs.declared.operation.Operation.{Operation}
-use Rattle.two_sets.proofs.WordJoins.{word-by, first-alone, second-alone}
+use Rattle.operations.specs.Operations.{joined, joinedWord, joinedBy, padded}
+use Rattle.operations.specs.declared.operation.Operation.{Operation}
+use Rattle.operations.proofs.WordJoins.{word-by, first-alone, second-alone}
 
 pub padded-in : (n : ℕ) (ws : List ℕ) (k : ℕ) → k < n → padded n ws k ≡ getD ws k 0
 padded-in n ws k h = ap (λ (t : Bool). cond t (getD ws k 0) 0) (lt-ltb k n h)

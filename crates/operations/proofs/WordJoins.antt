@@ -7,9 +7,9 @@ use lib.Dec.{lit<}
 use Rattle.word_bits.specs.Digits.{digit}
 use Rattle.word_bits.proofs.Digits.{digit-number, number-is, number-lt, digit-of-zero}
 use Rattle.word_bits.proofs.Operations.{digit-and, digit-xor, digit-full}
-use Rattle.two_sets.specs.Operations.{joined, joinedWord, maskedJoin, joinedBy}
-use Rattle.two_sets.specs.declared.operation.Operation.{Operation}
-use Rattle.two_sets.specs.declared.operation.Operation.the-variants.{Union, Intersection, Difference, SymmetricDifference}
+use Rattle.operations.specs.Operations.{joined, joinedWord, maskedJoin, joinedBy}
+use Rattle.operations.specs.declared.operation.Operation.{Operation}
+use Rattle.operations.specs.declared.operation.Operation.the-variants.{Union, Intersection, Difference, SymmetricDifference}
 
 module _ (op : Operation) (a b : ℕ) where
   pub joined-lt : joinedWord op a b < 2 ^ 64

@@ -6,8 +6,8 @@ use lib.Bits.{bitAnd, bitXor}
 use lib.Dec.{ltb}
 use lib.ListN.{getD}
 use Rattle.word_bits.specs.Digits.{digit, number}
-use Rattle.two_sets.specs.declared.operation.Operation.{Operation}
-use Rattle.two_sets.specs.declared.operation.Operation.the-variants.{Union, Intersection, Difference, SymmetricDifference}
+use Rattle.operations.specs.declared.operation.Operation.{Operation}
+use Rattle.operations.specs.declared.operation.Operation.the-variants.{Union, Intersection, Difference, SymmetricDifference}
 
 -- or, and, and not, exclusive or
 abbrev pub joined : Operation → Bool → Bool → Bool

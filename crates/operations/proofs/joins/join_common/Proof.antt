@@ -1,10 +1,10 @@
--- `two_sets::joins::join_common` meets its contract. Assumes nothing.
+-- `operations::joins::join_common` meets its contract. Assumes nothing.
 use mathlib.Core.Path.{_∙_}
 use denote.Ref.{now}
-use Rattle.two_sets.proofs.BlockJoins.{Words, join-by}
+use Rattle.operations.proofs.BlockJoins.{Words, join-by}
 use borrow.Author.Needs.{needs}
-use Rattle.two_sets.proofs.joins.join_common.Statement.{statement}
-use Rattle.two_sets.proofs.joins.join_common.Tie as tie
+use Rattle.operations.proofs.joins.join_common.Statement.{statement}
+use Rattle.operations.proofs.joins.join_common.Tie as tie
 
 words : (s : tie.After-slice-known) → Words (now (s .before .args .words))
 words s = record { fits = λ k. s .slice-known .given k .fits }

@@ -1,11 +1,11 @@
--- `two_sets::joins::join_second_alone` meets its contract. Assumes nothing.
+-- `operations::joins::join_second_alone` meets its contract. Assumes nothing.
 use mathlib.Core.Path.{refl, _∙_}
 use mathlib.Core.Bool.{xor}
 use denote.Ref.{now}
-use Rattle.two_sets.proofs.BlockJoins.{Words, second-comes, second-ends}
+use Rattle.operations.proofs.BlockJoins.{Words, second-comes, second-ends}
 use borrow.Author.Needs.{needs}
-use Rattle.two_sets.proofs.joins.join_second_alone.Statement.{statement}
-use Rattle.two_sets.proofs.joins.join_second_alone.Tie as tie
+use Rattle.operations.proofs.joins.join_second_alone.Statement.{statement}
+use Rattle.operations.proofs.joins.join_second_alone.Tie as tie
 
 others : (s : tie.After-shared-slice-known) → Words (now (s .before .before .args .other))
 others s = record { fits = λ k. s .shared-slice-known .given k .fits }

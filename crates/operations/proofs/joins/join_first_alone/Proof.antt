@@ -1,11 +1,11 @@
--- `two_sets::joins::join_first_alone` meets its contract. Assumes nothing.
+-- `operations::joins::join_first_alone` meets its contract. Assumes nothing.
 use mathlib.Core.Path.{refl, _∙_}
 use mathlib.Core.Bool.{xor}
 use denote.Ref.{now}
-use Rattle.two_sets.proofs.BlockJoins.{Words, first-stays, first-ends}
+use Rattle.operations.proofs.BlockJoins.{Words, first-stays, first-ends}
 use borrow.Author.Needs.{needs}
-use Rattle.two_sets.proofs.joins.join_first_alone.Statement.{statement}
-use Rattle.two_sets.proofs.joins.join_first_alone.Tie as tie
+use Rattle.operations.proofs.joins.join_first_alone.Statement.{statement}
+use Rattle.operations.proofs.joins.join_first_alone.Tie as tie
 
 words : (s : tie.After-slice-known) → Words (now (s .before .args .words))
 words s = record { fits = λ k. s .slice-known .given k .fits }
