@@ -1,13 +1,13 @@
--- `offset_files::take_body` meets its contract. Assumes nothing.
+-- `offset_reads::take_body` meets its contract. Assumes nothing.
 use mathlib.Core.Path.{sym, _∙_}
 use Rattle.byte_texts.specs.Ascii.{ascii}
 use Rattle.offset_lines.specs.declared.entry.Entry.the-variants.{Blank, Offset, Says, NotANumber, TooLarge, CarriageReturn, TooLong, Damaged}
 use Rattle.offset_lines.proofs.LineLaws.{offset-below}
 use Rattle.offset_files.specs.Files.{entryLine}
-use Rattle.offset_files.proofs.CutLaws.{entry-as}
+use Rattle.offset_reads.proofs.CutLaws.{entry-as}
 use borrow.Author.Needs.{needs}
-use Rattle.offset_files.proofs.lines.take_body.Statement.{statement}
-use Rattle.offset_files.proofs.lines.take_body.Tie as tie
+use Rattle.offset_reads.proofs.lines.take_body.Statement.{statement}
+use Rattle.offset_reads.proofs.lines.take_body.Tie as tie
 
 returns : tie.Need-returns
 unfolding entryLine

@@ -1,8 +1,8 @@
-use crate::entries::bad_line;
-use crate::entries::blank_line;
-use crate::entries::offset_line;
-use crate::entries::said_line;
-use crate::reading::Reading;
+use offset_files::Reading;
+use offset_files::bad_line;
+use offset_files::blank_line;
+use offset_files::offset_line;
+use offset_files::said_line;
 use offset_lines::Entry;
 use offset_lines::parse_line;
 ghost use mathlib.Core.Path.{_≡_};

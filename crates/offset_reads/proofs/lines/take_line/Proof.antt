@@ -1,10 +1,10 @@
--- `offset_files::take_line` meets its contract. Assumes nothing.
+-- `offset_reads::take_line` meets its contract. Assumes nothing.
 use mathlib.Core.Logic.{⊎-elim, inl, inr}
 use mathlib.Core.Path.{sym, _∙_}
-use Rattle.offset_files.proofs.CutLaws.{mark-long, held-decides, body-decides, marked-line, plain-line}
+use Rattle.offset_reads.proofs.CutLaws.{mark-long, held-decides, body-decides, marked-line, plain-line}
 use borrow.Author.Needs.{needs}
-use Rattle.offset_files.proofs.lines.take_line.Statement.{statement}
-use Rattle.offset_files.proofs.lines.take_line.Tie as tie
+use Rattle.offset_reads.proofs.lines.take_line.Statement.{statement}
+use Rattle.offset_reads.proofs.lines.take_line.Tie as tie
 
 sub-take-body : tie.Need-sub-take-body
 sub-take-body c = mark-long _ (sym (c .before .starts-with-mark .ensures) ∙ c .if2 .taken)

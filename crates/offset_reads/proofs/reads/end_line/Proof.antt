@@ -1,11 +1,11 @@
--- `offset_files::end_line` meets its contract. Assumes nothing.
+-- `offset_reads::end_line` meets its contract. Assumes nothing.
 use native.Mathlib.Omega.{arith}
 use mathlib.Core.Path.{sym}
 use lib.Seq.{length-take-le}
-use Rattle.offset_files.proofs.TextLaws.{line-room}
+use Rattle.offset_reads.proofs.TextLaws.{line-room}
 use borrow.Author.Needs.{needs}
-use Rattle.offset_files.proofs.reads.end_line.Statement.{statement}
-use Rattle.offset_files.proofs.reads.end_line.Tie as tie
+use Rattle.offset_reads.proofs.reads.end_line.Statement.{statement}
+use Rattle.offset_reads.proofs.reads.end_line.Tie as tie
 
 returns : tie.Need-returns
 returns c = λ f rest g h. absurd (omega (arith, line-room rest g, c .if1 .taken))

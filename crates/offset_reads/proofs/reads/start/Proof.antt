@@ -1,9 +1,9 @@
--- `offset_files::start` meets its contract. Assumes nothing.
+-- `offset_reads::start` meets its contract. Assumes nothing.
 use denote.Ref.{now}
-use Rattle.offset_files.proofs.ReadLaws.{start-holds}
+use Rattle.offset_reads.proofs.ReadLaws.{start-holds}
 use borrow.Author.Needs.{needs}
-use Rattle.offset_files.proofs.reads.start.Statement.{statement}
-use Rattle.offset_files.proofs.reads.start.Tie as tie
+use Rattle.offset_reads.proofs.reads.start.Statement.{statement}
+use Rattle.offset_reads.proofs.reads.start.Tie as tie
 
 returns : tie.Need-returns
 returns c = λ line report l w t.

@@ -8,11 +8,11 @@ use lib.Seq.{take-all}
 use mathlib.Core.Bool.{false}
 use Rattle.blocks.specs.Sweeps.{swept}
 use Rattle.blocks.proofs.BlockLaws.{zeroed, length-swept}
 use Rattle.offset_files.specs.Files.{File, Text, noText, takeLine, takeBytes}
 use Rattle.offset_files.specs.Holds.{HoldsFile, HoldsRest, HoldsText, tableWord}
 use Rattle.offset_files.specs.declared.reading.Reading.{Reading}
 use Rattle.offset_files.proofs.TableLaws.{zero-at, zero-members}
-use Rattle.offset_files.proofs.TextLaws.{bytes-next, Held, held-text, line-ends, byte-kept}
+use Rattle.offset_reads.proofs.TextLaws.{bytes-next, Held, held-text, line-ends, byte-kept}
 
 -- ---- the start
 

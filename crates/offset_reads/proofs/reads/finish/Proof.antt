@@ -1,8 +1,8 @@
--- `offset_files::finish` meets its contract. Assumes nothing.
-use Rattle.offset_files.proofs.TextLaws.{end-ended, end-line}
+-- `offset_reads::finish` meets its contract. Assumes nothing.
+use Rattle.offset_reads.proofs.TextLaws.{end-ended, end-line}
 use borrow.Author.Needs.{needs}
-use Rattle.offset_files.proofs.reads.finish.Statement.{statement}
-use Rattle.offset_files.proofs.reads.finish.Tie as tie
+use Rattle.offset_reads.proofs.reads.finish.Statement.{statement}
+use Rattle.offset_reads.proofs.reads.finish.Tie as tie
 
 returns : tie.Need-returns
 returns c = λ t h. end-ended _ t h (c .if1 .taken)

@@ -1,12 +1,12 @@
 use crate::lines::take_line;
-use crate::reading::Reading;
 use blocks::change_blocks;
+use offset_files::Reading;
 ghost use mathlib.Core.Path.{_≡_};
 ghost use mathlib.Core.List.{List, [], _∷_, _++_};
 ghost use Prim.Native.Nat.{ℕ, _≤_};
 ghost use lib.ListN.{length};
 ghost use Rattle.offset_files.specs.Files.{File, Text, noText, takeLine, takeBytes, atEnd};
 ghost use Rattle.offset_files.specs.Holds.{HoldsFile, HoldsRest, HoldsText};
 
 // Nothing is read. The words and the table are cleared.
 pub fn start(words: &mut [u64], table: &mut [u64]) -> Reading

@@ -1,9 +1,9 @@
--- `offset_files::keep_byte` meets its contract. Assumes nothing.
+-- `offset_reads::keep_byte` meets its contract. Assumes nothing.
 use native.Mathlib.Omega.{arith}
-use Rattle.offset_files.proofs.TextLaws.{byte-stored, byte-passed}
+use Rattle.offset_reads.proofs.TextLaws.{byte-stored, byte-passed}
 use borrow.Author.Needs.{needs}
-use Rattle.offset_files.proofs.reads.keep_byte.Statement.{statement}
-use Rattle.offset_files.proofs.reads.keep_byte.Tie as tie
+use Rattle.offset_reads.proofs.reads.keep_byte.Statement.{statement}
+use Rattle.offset_reads.proofs.reads.keep_byte.Tie as tie
 
 returns : tie.Need-returns
 returns c = λ rest h. byte-stored rest h _ (c .before .if1 .taken)

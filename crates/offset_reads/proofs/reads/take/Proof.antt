@@ -1,10 +1,10 @@
--- `offset_files::take` meets its contract. After k bytes of the piece what is held is that of the text with these bytes. Assumes nothing.
+-- `offset_reads::take` meets its contract. After k bytes of the piece what is held is that of the text with these bytes. Assumes nothing.
 use Prim.Native.Nat.{_-_}
 use borrow.Author.Needs.{needs}
 use lib.ListN.{length}
-use Rattle.offset_files.proofs.ReadLaws.{Taking, taking-start, taking-byte, taking-line, taking-end}
-use Rattle.offset_files.proofs.reads.take.Statement.{statement}
-use Rattle.offset_files.proofs.reads.take.Tie as tie
+use Rattle.offset_reads.proofs.ReadLaws.{Taking, taking-start, taking-byte, taking-line, taking-end}
+use Rattle.offset_reads.proofs.reads.take.Statement.{statement}
+use Rattle.offset_reads.proofs.reads.take.Tie as tie
 
 abbrev Inv-loop : tie.InvT-loop
 Inv-loop piece name line₀ words₀ table₀ report₀ state₀ size₀ k₀ line words table report state size k =
