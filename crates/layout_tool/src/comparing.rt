@@ -6,8 +6,8 @@ use crate::messages::incomplete;
 use crate::options::Options;
 use crate::streams::write_whole;
 use listing_lines::append_tables;
+use listing_pieces::same_offsets;
 use listings::Job;
-use listings::same_offsets;
 use std::num::wrapping_add_u64;
 use whole_walks::Walk;
 
