@@ -18,7 +18,7 @@ use Rattle.listings.specs.declared.jobs.Page.{Page}
 use Rattle.listings.specs.declared.jobs.Piece.{Piece}
 use Rattle.listings.specs.declared.jobs.Stage.{Stage}
 use Rattle.listings.specs.declared.jobs.Stage.the-variants.{First, Second, Last, Over}
-use Rattle.listing_lines.specs.declared.last_lines.Sizes.{Sizes}
+use Rattle.verdict_lines.specs.declared.last_lines.Sizes.{Sizes}
 
 -- how many offsets each file has, and how many only one has
 abbrev pub sizesOf : Members → Members → Sizes

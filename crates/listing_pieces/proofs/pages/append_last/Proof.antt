@@ -6,7 +6,7 @@ use denote.Ref.{now}
 use Rattle.byte_texts.specs.Texts.{written}
 use Rattle.listing_lines.specs.Lines.{countText, completeText, verdictText}
 use Rattle.listings.specs.Pages.{lastText}
-use Rattle.listing_lines.specs.declared.last_lines.Sizes.{Sizes}
+use Rattle.verdict_lines.specs.declared.last_lines.Sizes.{Sizes}
 use Rattle.listing_pieces.proofs.pages.append_last.Statement.{statement}
 use Rattle.listing_pieces.proofs.pages.append_last.Tie as tie
 

@@ -1,10 +1,10 @@
--- `listing_lines::last_lines::append_table` meets its contract. Assumes nothing.
+-- `verdict_lines::last_lines::append_table` meets its contract. Assumes nothing.
 use borrow.Author.Needs.{needs}
 use Rattle.byte_texts.specs.Ascii.{ascii}
 use Rattle.byte_texts.proofs.TextLaws.{written-then}
 use Rattle.listing_lines.specs.Lines.{tableText}
-use Rattle.listing_lines.proofs.last_lines.append_table.Statement.{statement}
-use Rattle.listing_lines.proofs.last_lines.append_table.Tie as tie
+use Rattle.verdict_lines.proofs.last_lines.append_table.Statement.{statement}
+use Rattle.verdict_lines.proofs.last_lines.append_table.Tie as tie
 
 returns : tie.Need-returns
 unfolding tableText ascii

@@ -1,9 +1,9 @@
--- `listing_lines::last_lines::append_result` meets its contract. Assumes nothing.
+-- `verdict_lines::last_lines::append_result` meets its contract. Assumes nothing.
 use borrow.Author.Needs.{needs}
 use borrow.Author.Tests.{eq-eqb, ne-eqb}
 use Rattle.listing_lines.specs.Lines.{resultText}
-use Rattle.listing_lines.proofs.last_lines.append_result.Statement.{statement}
-use Rattle.listing_lines.proofs.last_lines.append_result.Tie as tie
+use Rattle.verdict_lines.proofs.last_lines.append_result.Statement.{statement}
+use Rattle.verdict_lines.proofs.last_lines.append_result.Tie as tie
 
 returns : tie.Need-returns
 unfolding resultText

@@ -1,11 +1,11 @@
--- `listing_lines::last_lines::append_tables` meets its contract. Assumes nothing.
+-- `verdict_lines::last_lines::append_tables` meets its contract. Assumes nothing.
 use borrow.Author.Needs.{needs}
 use native.Mathlib.Omega.{arith}
 use Rattle.byte_texts.specs.Ascii.{ascii}
 use Rattle.byte_texts.proofs.TextLaws.{written-then}
 use Rattle.listing_lines.specs.Lines.{tablesText}
-use Rattle.listing_lines.proofs.last_lines.append_tables.Statement.{statement}
-use Rattle.listing_lines.proofs.last_lines.append_tables.Tie as tie
+use Rattle.verdict_lines.proofs.last_lines.append_tables.Statement.{statement}
+use Rattle.verdict_lines.proofs.last_lines.append_tables.Tie as tie
 
 returns : tie.Need-returns
 returns c = λ l. absurd (omega arith)

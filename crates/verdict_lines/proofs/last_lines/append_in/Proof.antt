@@ -1,9 +1,9 @@
--- `listing_lines::last_lines::append_in` meets its contract. Assumes nothing.
+-- `verdict_lines::last_lines::append_in` meets its contract. Assumes nothing.
 use borrow.Author.Needs.{needs}
 use Rattle.byte_texts.proofs.TextLaws.{written-then}
 use Rattle.listing_lines.specs.Lines.{inText}
-use Rattle.listing_lines.proofs.last_lines.append_in.Statement.{statement}
-use Rattle.listing_lines.proofs.last_lines.append_in.Tie as tie
+use Rattle.verdict_lines.proofs.last_lines.append_in.Statement.{statement}
+use Rattle.verdict_lines.proofs.last_lines.append_in.Tie as tie
 
 returns : tie.Need-returns
 unfolding inText

@@ -1,10 +1,10 @@
--- `listing_lines::last_lines::append_different` meets its contract. Assumes nothing.
+-- `verdict_lines::last_lines::append_different` meets its contract. Assumes nothing.
 use borrow.Author.Needs.{needs}
 use Rattle.byte_texts.specs.Ascii.{ascii}
 use Rattle.byte_texts.proofs.TextLaws.{written-then, written-same}
 use Rattle.listing_lines.specs.Lines.{differentText}
-use Rattle.listing_lines.proofs.last_lines.append_different.Statement.{statement}
-use Rattle.listing_lines.proofs.last_lines.append_different.Tie as tie
+use Rattle.verdict_lines.proofs.last_lines.append_different.Statement.{statement}
+use Rattle.verdict_lines.proofs.last_lines.append_different.Tie as tie
 
 returns : tie.Need-returns
 unfolding differentText ascii

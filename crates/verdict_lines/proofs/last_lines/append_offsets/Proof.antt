@@ -1,11 +1,11 @@
--- `listing_lines::last_lines::append_offsets` meets its contract. Assumes nothing.
+-- `verdict_lines::last_lines::append_offsets` meets its contract. Assumes nothing.
 use borrow.Author.Needs.{needs}
 use borrow.Author.Tests.{eq-eqb, ne-eqb}
 use Rattle.byte_texts.specs.Ascii.{ascii}
 use Rattle.byte_texts.proofs.TextLaws.{written-then}
 use Rattle.listing_lines.specs.Lines.{offsetsText}
-use Rattle.listing_lines.proofs.last_lines.append_offsets.Statement.{statement}
-use Rattle.listing_lines.proofs.last_lines.append_offsets.Tie as tie
+use Rattle.verdict_lines.proofs.last_lines.append_offsets.Statement.{statement}
+use Rattle.verdict_lines.proofs.last_lines.append_offsets.Tie as tie
 
 returns : tie.Need-returns
 unfolding offsetsText ascii
