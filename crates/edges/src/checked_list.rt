@@ -6,6 +6,7 @@ use crate::report::numbers;
 use crate::report::told;
 use comparisons::cmp;
 use edits::insert;
+use extremes::minimum;
 use growth::grow_and_insert;
 use range_counts::count_ones;
 use range_edits::insert_range;
@@ -13,7 +14,6 @@ use set_views::len;
 use sets::FixedBitSet;
 use tests::is_clear;
 use tests::is_full;
-use tests::minimum;
 use two_sets::union_with;
 use word_bits::last_positive_bit_and_unset;
 

@@ -5,6 +5,8 @@ use crate::report::found;
 use crate::report::told;
 use comparisons::eq;
 use edits::insert;
+use extremes::maximum;
+use extremes::minimum;
 use fresh_sets::with_capacity;
 use fresh_sets::with_capacity_and_blocks;
 use range_edits::insert_range;
@@ -15,8 +17,6 @@ use sets::FixedBitSet;
 use sets::Told;
 use tests::is_clear;
 use tests::is_full;
-use tests::maximum;
-use tests::minimum;
 
 fn blocks(tally: Tally) -> Tally {
     let mut words: [u64; 1] = [9];

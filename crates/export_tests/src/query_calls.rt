@@ -1,5 +1,7 @@
 use export_answers::FbsFound;
 use export_answers::found;
+use extremes::maximum;
+use extremes::minimum;
 use range_counts::count_ones;
 use range_counts::count_zeroes;
 use sets::Counted;
@@ -10,8 +12,6 @@ use tests::contains_all_in_range;
 use tests::contains_any_in_range;
 use tests::is_clear;
 use tests::is_full;
-use tests::maximum;
-use tests::minimum;
 ghost use mathlib.Core.Path.{_≡_};
 ghost use Rattle.tests.specs.Rules.{containsRule};
 ghost use Rattle.tests.specs.Rules.{containsAllRule, containsAnyRule, isFullRule, isClearRule};

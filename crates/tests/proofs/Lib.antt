@@ -3,4 +3,3 @@ pub mod ScanLaws
 pub mod PartLaws
 pub mod TestLaws
 pub mod RangeTestLaws
-pub mod ExtremeLaws

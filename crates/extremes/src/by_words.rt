@@ -1,9 +1,9 @@
-use crate::scans::first_other;
 use sets::FixedBitSet;
 use sets::Found;
 use sets::Position;
 use sets::blocks_of;
 use sets::check;
+use tests::first_other;
 use word_bits::leading_zeros;
 use word_bits::trailing_zeros;
 ghost use mathlib.Core.Bool.{not};

@@ -1,4 +1,4 @@
--- `tests::maximum` meets its contract. Assumes nothing.
+-- `extremes::maximum` meets its contract. Assumes nothing.
 use mathlib.Core.Path.{_≡_, sym, ap, _∙_}
 use Prim.Native.Nat.{ℕ, _+_, _-_, _*_, _<_, _≤_}
 use denote.Ref.{now}
@@ -10,12 +10,12 @@ use Rattle.sets.proofs.QuestionLaws.{Valid, valid}
 use Rattle.sets.proofs.WordLaws.{words-hold}
 use Rattle.sets.specs.declared.answers.Position.{Position}
 use Rattle.sets.specs.declared.answers.Position.the-variants.{At}
-use Rattle.tests.proofs.ExtremeLaws.{greatest-none, greatest-at}
+use Rattle.extremes.proofs.ExtremeLaws.{greatest-none, greatest-at}
 use Rattle.tests.proofs.ScanLaws.{descend-after, descend-stop}
 use borrow.Author.Needs.{needs}
 use native.Mathlib.Omega.{arith}
-use Rattle.tests.proofs.extremes.maximum.Statement.{statement}
-use Rattle.tests.proofs.extremes.maximum.Tie as tie
+use Rattle.extremes.proofs.by_words.maximum.Statement.{statement}
+use Rattle.extremes.proofs.by_words.maximum.Tie as tie
 
 returns : tie.Need-returns
 returns c = given-no _ _ (c .before .check .ensures) (c .if1 .taken)

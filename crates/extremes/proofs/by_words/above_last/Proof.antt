@@ -1,13 +1,13 @@
--- `tests::above_last` meets its contract. Each word k..end is 0. Assumes nothing.
+-- `extremes::above_last` meets its contract. Each word k..end is 0. Assumes nothing.
 use mathlib.Core.Path.{_≡_, sym, _∙_}
 use Prim.Native.Nat.{ℕ, _≤_, _<_, _-_, _+_}
 use denote.Ref.{now}
 use lib.ListN.{getD}
 use Rattle.tests.proofs.ScanLaws.{descend-all, descend-at, less}
 use borrow.Author.Needs.{needs}
 use native.Mathlib.Omega.{arith}
-use Rattle.tests.proofs.extremes.above_last.Statement.{statement}
-use Rattle.tests.proofs.extremes.above_last.Tie as tie
+use Rattle.extremes.proofs.by_words.above_last.Statement.{statement}
+use Rattle.extremes.proofs.by_words.above_last.Tie as tie
 
 abbrev Inv-loop : tie.InvT-loop
 Inv-loop words end k₀ k = (k ≤ end) × ((i : ℕ) → k ≤ i → i < end → getD words i 0 ≡ 0)

@@ -1,4 +1,4 @@
--- `tests::minimum` meets its contract. Assumes nothing.
+-- `extremes::minimum` meets its contract. Assumes nothing.
 use mathlib.Core.Path.{sym, ap, _∙_}
 use Prim.Native.Nat.{ℕ, _+_, _*_, _<_}
 use denote.Ref.{now}
@@ -11,12 +11,12 @@ use Rattle.sets.proofs.QuestionLaws.{Valid, valid}
 use Rattle.sets.proofs.WordLaws.{words-hold}
 use Rattle.sets.specs.declared.answers.Position.{Position}
 use Rattle.sets.specs.declared.answers.Position.the-variants.{At}
-use Rattle.tests.proofs.ExtremeLaws.{least-none, least-at}
+use Rattle.extremes.proofs.ExtremeLaws.{least-none, least-at}
 use Rattle.tests.proofs.ScanLaws.{scan-whole, scan-before, scan-stop}
 use borrow.Author.Needs.{needs}
 use native.Mathlib.Omega.{arith}
-use Rattle.tests.proofs.extremes.minimum.Statement.{statement}
-use Rattle.tests.proofs.extremes.minimum.Tie as tie
+use Rattle.extremes.proofs.by_words.minimum.Statement.{statement}
+use Rattle.extremes.proofs.by_words.minimum.Tie as tie
 
 returns : tie.Need-returns
 returns c = given-no _ _ (c .before .check .ensures) (c .if1 .taken)
