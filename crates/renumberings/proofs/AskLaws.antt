@@ -178,7 +178,8 @@ module _ (set : FixedBitSet) (ws : List ℕ) (back : Bool) (pairs : List Pair) (
       (ap (λ (l : List ℕ). cond (repeats l) 11 0) (sym (sides back pairs))
       ∙ ap (λ (b : Bool). cond b 11 0) (sym (shared-found ws (shared ws ps ms .words) qs (shared-size ws ms ps size))))
       (ap (positionsQuestion (setOf (empty n))) (sym (sides back pairs)) ∙ sym (beyond n qs))
-      (λ q. twelve _ _ (paired set ws ms ps size (valid set ws e) (sym (shared-found ws ms ps size) ∙ q)))
+      (λ q. twelve (isSubsetRule set ws (setOf (empty 65536)) (shared ws ps ms .words) .yes)
+      (some (read ws set .len) (λ p. read ws set .has p && not (isIn (olds ps) p))) (paired set ws ms ps size (valid set ws e) (sym (shared-found ws ms ps size) ∙ q)))
 
 -- ---- what is left
 

@@ -3,3 +3,7 @@ pub mod TaskLaws
 pub mod RepeatLaws
 pub mod RunLaws
 pub mod AskLaws
+pub mod PairListLaws
+pub mod CountLaws
+pub mod AcceptLaws
+pub mod PromiseLaws

@@ -163,6 +163,7 @@ held-has x t p h = go (lt-or-le x (t .len))
     same : (a b : Bool) → cond a true b ≡ (a || b)
     same true b = refl
     same false b = refl
+
     go : (x < t .len) ⊎ (t .len ≤ x) → held x t .has p ≡ (eqb x p || t .has p)
     go (inl l) = ap (λ (u : Members). u .has p) (held-in x t l) ∙ same (eqb x p) (t .has p)
     go (inr g) = ap (λ (u : Members). u .has p) (held-out x t g) ∙ sym (ap (λ (b : Bool). b || t .has p) (ne-eqb x p (λ e. omega arith)))
@@ -177,6 +178,7 @@ marks-has t (x ∷ xs) p h e = go (t .has x) e (marks-has (held x t) xs p (rw (h
     swap true false c = refl
     swap false true c = refl
     swap false false c = refl
+
     go : (b : Bool) → (b || hits (held x t) xs) ≡ false → (hits (held x t) xs ≡ false → marks (held x t) xs .has p ≡ (isIn xs p || held x t .has p))
         → cond b (held x t) (marks (held x t) xs) .has p ≡ ((eqb x p || isIn xs p) || t .has p)
     go true q k = absurd (true≢false q)
