@@ -7,3 +7,4 @@ pub mod PairListLaws
 pub mod CountLaws
 pub mod AcceptLaws
 pub mod PromiseLaws
+pub mod BackLaws

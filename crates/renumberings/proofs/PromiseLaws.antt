@@ -165,10 +165,10 @@ module _ (set : FixedBitSet) (ws : List ℕ) (ps : List Pair) (n : ℕ) (vs us :
   }
 
   -- where every old offset is below the old length
-  back-restored : (fit : (k : ℕ) → getD ws k 0 < 2 ^ 64) → positionsQuestion set (olds ps) ≡ 0
+  back-restored : positionsQuestion set (olds ps) ≡ 0
       → _≡_ {A = Outcome} (renumberRule (setOf new) (write vs new) (swapped ps) (set .length) us) (record { number = 0; set = set; words = write us old })
   unfolding read
-  back-restored fit e =
+  back-restored e =
       sym (given-yes (λ m. record { number = m; set = setOf (empty 0); words = us }) (sym (accepts (setOf new) (write vs new) (swapped ps) (set .length) (length us) (back-accepted e)))
       (ap (λ (m : Members). record { number = 0; set = setOf m; words = write us m }) (sym back-members)))
 
@@ -181,12 +181,21 @@ module _ (set : FixedBitSet) (ws : List ℕ) (ps : List Pair) (n : ℕ) (vs us :
       (first-yes (ap (λ (xs : List ℕ). cond (repeats xs) 11 0) (swapped-news ps) ∙ ap (λ (b : Bool). cond b 11 0) (a .olds-once))
       (first-no _ (sym (ap (positionsQuestion set) (swapped-news ps) ∙ refused-4 set (olds ps) h)) (λ z. omega arith)))))
 
+-- the way back, where it is promised
+pub back-is : (set : FixedBitSet) (ws : List ℕ) (ps : List Pair) (n : ℕ) (vs us : List ℕ) → renumberRule set ws ps n vs .number ≡ 0
+    → wordsOf (set .length) ≤ length us → positionsQuestion set (olds ps) ≡ 0
+    → _≡_ {A = Outcome} (wayBack set ws ps n vs us) (record { number = 0; set = set; words = write us (read ws set) })
+back-is set ws ps n vs us e space below =
+    let q = accepted-by set ws ps n vs e in
+    ap (λ (o : Outcome). renumberRule (o .set) (o .words) (swapped ps) (set .length) us) (q .1)
+    ∙ back-restored set ws ps n vs us (accepted set ws ps n (length vs) (q .0)) space below
+
 pub way-back : (set : FixedBitSet) (ws : List ℕ) (ps : List Pair) (n : ℕ) (vs us : List ℕ) → ((k : ℕ) → getD ws k 0 < 2 ^ 64)
     → renumberRule set ws ps n vs .number ≡ 0 → wordsOf (set .length) ≤ length us → WayBack set ws ps n vs us
 unfolding read
 way-back set ws ps n vs us fit e space = record {
   restored = λ below.
-      let is = there ∙ back-restored set ws ps n vs us a space fit below in
+      let is = back-is set ws ps n vs us e space below in
       record {
         accepted = ap (λ (o : Outcome). o .number) is;
         same-set = ap (λ (o : Outcome). o .set) is;
