@@ -1,3 +1,4 @@
+pub mod Examples
 pub mod MarkLaws
 pub mod TaskLaws
 pub mod RepeatLaws
