@@ -1,16 +1,20 @@
 -- What the passes say of the pairs from a place on, by the pair that stands there. Assumes nothing.
-use mathlib.Core.Path.{_≡_, refl, sym, _∙_, ap}
+use mathlib.Core.Path.{_≡_, refl, sym, _∙_, ap, subst}
 use Prim.Native.Nat.{ℕ, zero, suc, _+_, _≤_, _<_}
 use native.Mathlib.Nat.{not-suc-le-zero, le-of-suc-le-suc}
 use native.Mathlib.Numerals.{add-one}
-use mathlib.Core.Bool.{Bool, true, false, not, _||_}
+use native.Mathlib.Omega.{arith}
+use mathlib.Core.Bool.{Bool, true, false, cond, not, _||_}
 use mathlib.Core.List.{List, [], _∷_}
-use lib.Dec.{T}
+use lib.Dec.{T, eqb, leb, leb→le}
+use borrow.Author.Tests.{leb-false, ne-eqb}
 use lib.ListN.{length, getD, drop, drop-of-length-le}
-use Rattle.renumberings.specs.Pairs.{sidedPair, sided}
-use Rattle.renumberings.specs.Passes.{matches, found}
+use Rattle.edits.specs.Edits.{isIn}
+use Rattle.renumberings.specs.Pairs.{sidedPair, sided, olds, repeats}
+use Rattle.renumberings.specs.Passes.{matches, found, aboves}
 use Rattle.renumberings.specs.declared.pair.Pair.{Pair}
 use Rattle.renumberings.specs.declared.steps.Test.{Test}
+use Rattle.renumberings.specs.declared.steps.Test.the-variants.{Is, AtLeast}
 
 -- a pair past the end of a list
 abbrev pub none : Pair
@@ -58,3 +62,55 @@ found-here test back ps k l t = found-at test back ps k l ∙ or-true (matches t
 
 pub found-next : (test : Test) (back : Bool) (ps : List Pair) (k : ℕ) → k < length ps → T (not (matches test (pairAt back ps k))) → found test (sided back (drop k ps)) ≡ found test (sided back (drop (k + 1) ps))
 found-next test back ps k l t = found-at test back ps k l ∙ or-false (matches test (pairAt back ps k)) _ t
+
+-- whether an old offset from 65,536 up stands twice among the pairs from a place on
+abbrev pub repeated : Bool → List Pair → ℕ → Bool
+repeated back ps k = repeats (aboves (olds (sided back (drop k ps))))
+
+isIn-above : (x : ℕ) → 65536 ≤ x → (ps : List Pair) → isIn (aboves (olds ps)) x ≡ found (Is x) ps
+unfolding isIn aboves olds found matches
+isIn-above x l [] = refl
+isIn-above x l (p ∷ ps) = go (leb 65536 (p .old)) refl (isIn-above x l ps)
+  where
+    go : (t : Bool) → leb 65536 (p .old) ≡ t → isIn (aboves (olds ps)) x ≡ found (Is x) ps → isIn (cond t (p .old ∷ aboves (olds ps)) (aboves (olds ps))) x ≡ eqb (p .old) x || found (Is x) ps
+    go true e ih = ap (λ (b : Bool). eqb (p .old) x || b) ih
+    go false e ih = ih ∙ ap (λ (b : Bool). b || found (Is x) ps) (sym (ne-eqb (p .old) x (λ q. let less = leb-false 65536 (p .old) e in omega (arith, l, q, less))))
+
+repeats-above : (p : Pair) (ps : List Pair) → T (matches (AtLeast 65536) p) → repeats (aboves (olds (p ∷ ps))) ≡ found (Is (p .old)) ps || repeats (aboves (olds ps))
+unfolding repeats aboves olds matches
+repeats-above p ps t = go (leb 65536 (p .old)) refl
+  where
+    go : (b : Bool) → leb 65536 (p .old) ≡ b → repeats (cond b (p .old ∷ aboves (olds ps)) (aboves (olds ps))) ≡ found (Is (p .old)) ps || repeats (aboves (olds ps))
+    go true e = ap (λ (b : Bool). b || repeats (aboves (olds ps))) (isIn-above (p .old) (leb→le 65536 (p .old) t) ps)
+    go false e = absurd (subst T e t)
+
+repeats-below : (p : Pair) (ps : List Pair) → T (not (matches (AtLeast 65536) p)) → repeats (aboves (olds (p ∷ ps))) ≡ repeats (aboves (olds ps))
+unfolding aboves olds matches
+repeats-below p ps t = go (leb 65536 (p .old)) refl
+  where
+    go : (b : Bool) → leb 65536 (p .old) ≡ b → repeats (cond b (p .old ∷ aboves (olds ps)) (aboves (olds ps))) ≡ repeats (aboves (olds ps))
+    go true e = absurd (subst (λ (b : Bool). T (not b)) e t)
+    go false e = refl
+
+module _ (back : Bool) (ps : List Pair) (k : ℕ) where
+  abbrev p : Pair
+  p = pairAt back ps k
+
+  abbrev rest : List Pair
+  rest = sided back (drop (k + 1) ps)
+
+  repeated-at : k < length ps → repeated back ps k ≡ repeats (aboves (olds (p ∷ rest)))
+  repeated-at l = ap (λ (qs : List Pair). repeats (aboves (olds qs))) (sided-at back ps k l)
+
+  pub repeated-here : k < length ps → T (matches (AtLeast 65536) p) → T (found (Is (p .old)) rest) → repeated back ps k ≡ true
+  repeated-here l a t = repeated-at l ∙ repeats-above p rest a ∙ or-true (found (Is (p .old)) rest) _ t
+
+  pub repeated-next : k < length ps → T (matches (AtLeast 65536) p) → T (not (found (Is (p .old)) rest)) → repeated back ps k ≡ repeated back ps (k + 1)
+  repeated-next l a t = repeated-at l ∙ repeats-above p rest a ∙ or-false (found (Is (p .old)) rest) _ t
+
+  pub repeated-below : k < length ps → T (not (matches (AtLeast 65536) p)) → repeated back ps k ≡ repeated back ps (k + 1)
+  repeated-below l b = repeated-at l ∙ repeats-below p rest b
+
+  pub repeated-end : length ps ≤ k → repeated back ps k ≡ false
+  unfolding repeats aboves olds
+  repeated-end l = ap (λ (qs : List Pair). repeats (aboves (olds qs))) (sided-end back ps k l)

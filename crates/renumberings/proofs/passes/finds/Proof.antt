@@ -2,9 +2,8 @@
 -- The loop's invariant: what is found from the start on is found from k on.
 -- Assumes nothing.
 use mathlib.Core.Path.{_≡_, refl, sym, _∙_, ap}
-use Prim.Native.Nat.{ℕ, _+_, _-_, _*_, _<_, _^_}
+use Prim.Native.Nat.{ℕ, _+_, _-_, _<_, _^_}
 use native.Mathlib.Numerals.{add-one-dec}
-use native.Mathlib.Omega.{arith}
 use mathlib.Core.Bool.{Bool, true, false}
 use mathlib.Core.List.{List, [], _∷_}
 use mathlib.Core.WellFounded.{WellFounded, InvImage·wf}
@@ -52,7 +51,7 @@ use Rattle.renumberings.specs.Passes.{matches, found}
 use Rattle.renumberings.specs.declared.pair.Pair.{Pair}
 use Rattle.renumberings.specs.declared.steps.Test.{Test}
 use Rattle.renumberings.proofs.PassLaws.{found-here, found-next, found-end}
-use Rattle.renumberings.proofs.PairLaws.{after, lent, Pairs, nth-pair, looks-pair, shuts-pair}
+use Rattle.renumberings.proofs.PairLaws.{after, bytes-fit, next-fits, lent, Pairs, nth-pair, looks-pair, shuts-pair}
 use Rattle.renumberings.proofs.pair.Pair as P
 use Rattle.renumberings.proofs.pair.Pair.Laws as P′
 use Rattle.renumberings.proofs.steps.Test as E
@@ -170,7 +169,7 @@ module _ {M : Type 1} (𝓤 : URA M) (H : Heap 𝓤) (A : Atoms 𝓤) (W : Given
         assigns ! (bin ! (load ! (from ! (stop !)) (look ! 12 refl)) (load ! (from ! (stop !)) (look ! 10 refl)) tt) (from ! (stop !)) (init ! 8 refl (tt, tt)) $
         first ! $ branches ! (load ! (from ! (stop !)) (look ! 8 refl))
         (λ less. skips ! $ exec ! C Λ En (after (after (after code.Mir.turn-1))) (anyQ (Turned i)) $
-        assigns ! (bin ! (load ! (from ! (stop !)) (look ! 12 refl)) (lit ! tt) (record { fits = bytes less })) (from ! (stop !)) (store ! 10 refl (tt, record { fits = bytes less })) $
+        assigns ! (bin ! (load ! (from ! (stop !)) (look ! 12 refl)) (lit ! tt) (record { fits = bytes-fit n (i .0) room (within less) })) (from ! (stop !)) (store ! 10 refl (tt, record { fits = bytes-fit n (i .0) room (within less) })) $
         assigns ! (bin ! (load ! (from ! (fld ! refl (stop !))) (look-in ! 20 (sub ! 0 refl (whole !)))) (load ! (from ! (stop !)) (look ! 10 refl)) tt) (from ! (stop !)) (init ! 4 refl (tt, tt)) $
         rewrite ! 4 (λ (o : ℕ). ‵ (fat fullShare tyPtr l₉ 0 (vptr (s .ptr .0) o))) (sym (place-is 16 (s .ptr .1) (i .0))) refl $
         move ! (1 ∷ 0 ∷ []) $ looks-pair ! tt s (i .0) (within less) (λ q′ is.
@@ -188,9 +187,9 @@ module _ {M : Type 1} (𝓤 : URA M) (H : Heap 𝓤) (A : Atoms 𝓤) (W : Given
         forget ! 2 refl $ forget ! 4 refl $ forget ! 6 refl $ forget ! 8 refl $ forget ! 10 refl $ forget ! 12 refl $ forget ! 14 refl $ forget ! 16 refl $ forget ! 18 refl $ forget ! 20 refl $ forget ! 22 refl $
         ends true (sym (i .2 ∙ found-here test back (s .now) (i .0) (within less) hit)))
         (λ miss. skips ! $ exec ! C Λ En more (anyQ (Turned i)) $
-        assigns-last ! (bin ! (load ! (from ! (stop !)) (look ! 12 refl)) (lit ! tt) (record { fits = fits less })) (from ! (stop !)) (store ! 12 refl (tt, record { fits = fits less })) $
+        assigns-last ! (bin ! (load ! (from ! (stop !)) (look ! 12 refl)) (lit ! tt) (record { fits = next-fits n (i .0) room (within less) })) (from ! (stop !)) (store ! 12 refl (tt, record { fits = next-fits n (i .0) room (within less) })) $
         forget ! 2 refl $ forget ! 4 refl $ forget ! 6 refl $ forget ! 8 refl $ forget ! 10 refl $
-        again ! Nearer At i (i .0 + 1, fits less, i .2 ∙ found-next test back (s .now) (i .0) (within less) miss) (add-one-dec n (i .0) (within less)))))))))
+        again ! Nearer At i (i .0 + 1, next-fits n (i .0) room (within less), i .2 ∙ found-next test back (s .now) (i .0) (within less) miss) (add-one-dec n (i .0) (within less)))))))))
         (λ over. jumps ! $ exec ! C Λ En code.Mir.t-3 (atRet En Post) $
         assigns ! (of-opd ! (false-lit !)) (from ! (stop !)) (init ! 22 refl (tt, tt)) $ returns ! (look ! 22 refl) $
         forget ! 8 refl $ forget ! 10 refl $ forget ! 12 refl $ forget ! 14 refl $ forget ! 16 refl $ forget ! 18 refl $ forget ! 20 refl $ forget ! 22 refl $
@@ -204,12 +203,6 @@ module _ {M : Type 1} (𝓤 : URA M) (H : Heap 𝓤) (A : Atoms 𝓤) (W : Given
 
         within : T (ltb (i .0) n) → i .0 < n
         within less = ltb→lt (i .0) n less
-
-        bytes : T (ltb (i .0) n) → i .0 * 16 < 2 ^ 64
-        bytes less = let l = within less in let r = room .1 in omega (arith, l, r)
-
-        fits : T (ltb (i .0) n) → i .0 + 1 < 2 ^ 64
-        fits less = let l = within less in let r = room .0 in omega (arith, l, r)
 
     runs-loop : Sq W (At (start, is-start, refl)) (runs C Λ En code.Mir.t-2 (atRet En Post))
     runs-loop = first ! $ blocks ! $ loops ! 𝓣 Nearer Nearer-wf At turns (start, is-start, refl)
