@@ -1,2 +1,3 @@
 mod PassLaws
 mod PairLaws
+mod LentWords

@@ -11,8 +11,9 @@ use borrow.Author.Tests.{leb-false, ne-eqb}
 use lib.ListN.{length, getD, drop, drop-of-length-le}
 use Rattle.edits.specs.Edits.{isIn}
 use Rattle.renumberings.specs.Pairs.{sidedPair, sided, olds, repeats}
-use Rattle.renumberings.specs.Passes.{matches, found, aboves}
+use Rattle.renumberings.specs.Passes.{Taken, matches, found, aboves, taken, passed}
 use Rattle.renumberings.specs.declared.pair.Pair.{Pair}
+use Rattle.renumberings.specs.declared.steps.Task.{Task}
 use Rattle.renumberings.specs.declared.steps.Test.{Test}
 use Rattle.renumberings.specs.declared.steps.Test.the-variants.{Is, AtLeast}
 
@@ -114,3 +115,27 @@ module _ (back : Bool) (ps : List Pair) (k : ℕ) where
   pub repeated-end : length ps ≤ k → repeated back ps k ≡ false
   unfolding repeats aboves olds
   repeated-end l = ap (λ (qs : List Pair). repeats (aboves (olds qs))) (sided-end back ps k l)
+
+-- a pass over the pairs from a place on, where the pair there leaves the words as zs and its answer is r
+module _ (task : Task) (os : List ℕ) (back : Bool) (ps : List Pair) where
+  abbrev pub passedFrom : ℕ → List ℕ → Taken
+  passedFrom k ws = passed task os (sided back (drop k ps)) ws
+
+  abbrev on : ℕ → Taken → Taken
+  on k x = cond (x .found) x (passedFrom (k + 1) (x .words))
+
+  passed-at : (k : ℕ) (ws : List ℕ) (r : Bool) (zs : List ℕ) → k < length ps → record { found = r; words = zs } ≡ taken task os (pairAt back ps k) ws → passedFrom k ws ≡ on k (record { found = r; words = zs })
+  unfolding passed
+  passed-at k ws r zs l e = ap (λ (qs : List Pair). passed task os qs ws) (sided-at back ps k l) ∙ ap (on k) (sym e)
+
+  pub passed-here : (k : ℕ) (ws : List ℕ) (r : Bool) (zs : List ℕ) → k < length ps → record { found = r; words = zs } ≡ taken task os (pairAt back ps k) ws → T r → passedFrom k ws ≡ record { found = true; words = zs }
+  passed-here k ws true zs l e t = passed-at k ws true zs l e
+  passed-here k ws false zs l e t = absurd t
+
+  pub passed-next : (k : ℕ) (ws : List ℕ) (r : Bool) (zs : List ℕ) → k < length ps → record { found = r; words = zs } ≡ taken task os (pairAt back ps k) ws → T (not r) → passedFrom k ws ≡ passedFrom (k + 1) zs
+  passed-next k ws true zs l e t = absurd t
+  passed-next k ws false zs l e t = passed-at k ws false zs l e
+
+  pub passed-end : (k : ℕ) (ws : List ℕ) → length ps ≤ k → passedFrom k ws ≡ record { found = false; words = ws }
+  unfolding passed
+  passed-end k ws l = ap (λ (qs : List Pair). passed task os qs ws) (sided-end back ps k l)
