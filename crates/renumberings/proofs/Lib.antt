@@ -1,3 +1,4 @@
+-- The laws of marks, passes and questions; the promises; what the walks over `&[Pair]` share.
 pub mod Examples
 pub mod MarkLaws
 pub mod TaskLaws
@@ -9,3 +10,6 @@ pub mod CountLaws
 pub mod AcceptLaws
 pub mod PromiseLaws
 pub mod BackLaws
+pub mod PairLaws
+pub mod PassLaws
+pub mod LentWords
