@@ -13,3 +13,6 @@ pub mod BackLaws
 pub mod PairLaws
 pub mod PassLaws
 pub mod LentWords
+pub mod Calling
+pub mod Lending
+pub mod PassCall
