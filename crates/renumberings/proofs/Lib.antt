@@ -16,3 +16,4 @@ pub mod LentWords
 pub mod Calling
 pub mod Lending
 pub mod PassCall
+pub mod RenumberCall

@@ -1,2 +1,2 @@
 -- Laws of the functions that pass a list of pairs on.
-mod SideLaws
+pub mod SideLaws
