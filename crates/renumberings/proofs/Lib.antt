@@ -1,3 +1,4 @@
 pub mod Calling
 pub mod Lending
 mod PassCall
+mod SharesCall
