@@ -17,3 +17,4 @@ pub mod Calling
 pub mod Lending
 pub mod PassCall
 pub mod RenumberCall
+pub mod SharesCall
