@@ -1,5 +1,5 @@
 -- A function that passes its parameters on to a call of its own contract: the walk of its MIR, once for both calls, by that contract.
--- The buffer of the result goes to the callee at its own lifetime and name, for good.
+-- The buffer goes to the callee at its own lifetime and name, and does not come back.
 -- Assumes nothing.
 use mathlib.Core.Path.{_≡_, refl}
 use Prim.Native.Nat.{ℕ}
@@ -11,7 +11,6 @@ use base.Logic.{SProp, ent, emp, via, fst∗, id⊢}
 use prog.Wp.{Heap, Calls, Loops, WpFn, Tables}
 use ghost.Atoms.{Atoms}
 use contract.Lifetimes.{Lfts, Shares}
-use contract.Monad.{fact}
 use types.Kit.{Given, ‵, raw, ⋆, _$_, _∵_, !, qed, by, move, fsplit, fjoin, feqL, suffices, frame, drop, done}
 use types.Part.{agg, whole, sub, look-in}
 use types.Run.{look, init, forget, stop, hop, fld, from, load, addr, and-then, no-more, assigns, land, returns, enter, alloc1, alloc0, params1, pass1, pass0, free1, free0}
@@ -19,19 +18,18 @@ use sound.WpLaws.{FmC, fmOf, WpFn-mono}
 use denote.RattleType.{flat}
 use denote.Laws.{Are, Ises}
 use denote.Memory.{pointee}
-use denote.Plain.{uint-vals, uint-tells, uint-lawful}
-use denote.Builtin.{u64, usize}
+use denote.Plain.{uint-vals, uint-lawful}
+use denote.Builtin.{u64}
 use denote.Ref.{RefT, now}
-use denote.Signature.{typesAt, plain, shrSliceOf}
-use denote.Slice.{sliceTy, slice-vals, mut-slice-tells, shr-slice-tells, mut-slice-lawful, shr-slice-lawful}
+use denote.Signature.{typesAt}
+use denote.Slice.{sliceTy, slice-vals, mut-slice-lawful, shr-slice-lawful}
 use denote.Steps.{nothing}
 use denote.Struct.Laws as LL
 use denote.Triple.Statement.{Contract, Triple}
 use denote.Triple.Entry.{Args, Vals, alive, onEntry}
 use denote.Triple.Spec.{Meets, tripleOf}
-use denote.Triple.Walked.{says, Stays, stay-dropped, gave-slice, walkOf, goes-dropped, goes-gave-slice, Walks, ends-at, walked, walk-meets}
-use denote.Triple.Clauses.{Clauses, Lasts, closing, lasts}
-use denote.Exit.{yes}
+use denote.Triple.Walked.{says, walkOf, Walks, ends-at, walked, walk-meets}
+use denote.Triple.Clauses.{Lasts, closing, lasts}
 use Rattle.sets.specs.Outcomes.{outcome}
 use Rattle.sets.specs.declared.answers.Edited.{Edited}
 use Rattle.sets.proofs.answers.Edited as E
@@ -41,6 +39,7 @@ use Rattle.sets.proofs.fixed_bit_set.FixedBitSet.Laws as F′
 use Rattle.renumberings.specs.Rules.{renumberRule}
 use Rattle.renumberings.specs.declared.pair.Pair.{Pair}
 use Rattle.renumberings.proofs.Calling.{local, calls-met}
+use Rattle.renumberings.proofs.Forms.{clauses, stays, spelled, told, goes}
 use Rattle.renumberings.proofs.pair.Pair as P
 use Rattle.renumberings.proofs.renumber as inner
 
@@ -57,17 +56,6 @@ function f = record {
       (seq (call f (copy (place 1 []) ∷ copy (place 2 []) ∷ copy (place 3 []) ∷ copy (place 4 []) ∷ copy (place 7 []) ∷ []) (place 0 [])) return));
 }
 
--- the contract of both, where the pairs are read by `side`
-abbrev pub clauses : {M : Type 1} (𝓤 : URA M) → (List Pair → List Pair) → Clauses 𝓤 inner.ended
-clauses 𝓤 side κs a = record {
-  ghost = Unit {0};
-  requires = λ _. emp 𝓤;
-  ensures = λ _ r e. fact 𝓤 (outcome r (now (e .1 .1 .1 .1 .0)) ≡ renumberRule (a .0) (now (a .1 .0)) (side (now (a .1 .1 .0))) (a .1 .1 .1 .0) (now (a .1 .1 .1 .1 .0)));
-}
-
-abbrev stayed : Stays (inner.ended .signature .params) (inner.ended .kept)
-stayed = (stay-dropped (plain (λ _. F.the-row)) yes, (stay-dropped (shrSliceOf (0 ∷ []) tt (plain (λ _. u64))) yes, (stay-dropped (shrSliceOf (1 ∷ []) tt (plain (λ _. P.the-row))) yes, (stay-dropped (plain (λ _. usize)) yes, (gave-slice (2 ∷ []) tt (plain (λ _. u64)), tt)))))
-
 module _ (f : Name) (side : List Pair → List Pair) where
   -- what is known of f
   abbrev pub Inner : {M : Type 1} (𝓤 : URA M) (H : Heap 𝓤) (A : Atoms 𝓤) → Contract 𝓤
@@ -81,7 +69,7 @@ module _ (f : Name) (side : List Pair → List Pair) where
     at = (F′.lowered (a .0) ∷ [], (slice-vals (a .1 .0), (slice-vals (a .1 .1 .0), (uint-vals w64 (a .1 .1 .1 .0), (slice-vals x, tt)))))
 
     abbrev Post : Val → SProp 𝓤
-    Post = walkOf 𝓤 H A inner.ended stayed (clauses 𝓤 side) .post ((κs, qs, tt, a, at), tt)
+    Post = walkOf 𝓤 H A inner.ended stays (clauses 𝓤 side) .post ((κs, qs, tt, a, at), tt)
 
     abbrev Said : Edited → List ℕ → Type 0
     Said r zs = outcome r zs ≡ renumberRule (a .0) (now (a .1 .0)) (side (now (a .1 .1 .0))) (a .1 .1 .1 .0) (now x)
@@ -90,7 +78,7 @@ module _ (f : Name) (side : List Pair → List Pair) where
     exits r u zs e =
         qed W (‵ (E.the-row .own r (u ∷ [])) ∷ raw (alive 𝓤 H A inner.signature κs qs) ∷ ‵ (lasts inner.ended κs a zs) ∷ []) ∵
         move ! (2 ∷ []) $ fsplit ! $ drop ! $ fsplit ! $ drop ! $ fsplit ! $ drop ! $ fsplit ! $ drop ! $ fsplit ! $ fsplit ! $ move ! (1 ∷ []) $ feqL ! (λ l.
-        suffices ! _ (ends-at 𝓤 H A inner.ended stayed (clauses 𝓤 side) W ((κs, qs, tt, a, at), tt) u r (tt, (tt, (tt, (tt, (zs .1 .1 .1 .1 .0, tt))))) (tt, (tt, (tt, (tt, (l, tt)))))) $ says ! e $
+        suffices ! _ (ends-at 𝓤 H A inner.ended stays (clauses 𝓤 side) W ((κs, qs, tt, a, at), tt) u r (tt, (tt, (tt, (tt, (zs .1 .1 .1 .1 .0, tt))))) (tt, (tt, (tt, (tt, (l, tt)))))) $ says ! e $
         -- [the last words; true; the result; the tokens]
         move ! (3 ∷ []) $ frame ! $ fjoin ! $ nothing ! $ fjoin ! $ nothing ! $ fjoin ! $ nothing ! $ fjoin ! $ nothing ! $ fjoin ! $ frame ! $ done !)
 
@@ -115,13 +103,10 @@ module _ (f : Name) (side : List Pair → List Pair) where
           by ! (exits r u zs e))))))))))
 
   module _ {M : Type 1} (𝓤 : URA M) (H : Heap 𝓤) (A : Atoms 𝓤) (W : Given 𝓤 H A) where
-    walks : (C : Calls 𝓤 H) (Λ : Loops 𝓤 H) → FmC 𝓤 H (W .laws) C → Triple 𝓤 (C f) (Inner 𝓤 H A) → Walks 𝓤 H A inner.ended stayed (WpFn 𝓤 H C Λ (function f)) (clauses 𝓤 side)
-    walks C Λ fm known = walked 𝓤 H A inner.ended stayed (clauses 𝓤 side) (WpFn 𝓤 H C Λ (function f)) (λ κs. (LL.vals F.the-type F′.the-laws, (slice-vals, (slice-vals, (uint-vals w64, (slice-vals, tt))))))
-        (λ κs. (LL.tells F.the-type F′.the-laws, (shr-slice-tells (named 0) (κs .0) u64, (shr-slice-tells (named 1) (κs .1 .0) P.the-row, (uint-tells w64, (mut-slice-tells (named 2) (κs .1 .1 .0) u64, tt))))))
+    walks : (C : Calls 𝓤 H) (Λ : Loops 𝓤 H) → FmC 𝓤 H (W .laws) C → Triple 𝓤 (C f) (Inner 𝓤 H A) → Walks 𝓤 H A inner.ended stays (WpFn 𝓤 H C Λ (function f)) (clauses 𝓤 side)
+    walks C Λ fm known = walked 𝓤 H A inner.ended stays (clauses 𝓤 side) (WpFn 𝓤 H C Λ (function f)) spelled told
         (λ κs qs bounds a g are. via 𝓤 _ (fst∗ 𝓤 _ (emp 𝓤)) (walk 𝓤 H A W κs qs a C Λ fm known are))
 
     pub meets : (𝓣 : Tables 𝓤 H) → Triple 𝓤 (𝓣 .C f) (Inner 𝓤 H A) → Meets 𝓤 H A inner.signature (WpFn 𝓤 H (𝓣 .C) (𝓣 .Λ) (function f)) (closing 𝓤 H A inner.ended (clauses 𝓤 side))
     meets 𝓣 known =
-        walk-meets 𝓤 H A inner.ended stayed W
-        (goes-dropped 𝓤 H A W 3 (plain (λ _. F.the-row)) yes (λ κs x f. refl), (goes-dropped 𝓤 H A W 3 (shrSliceOf (0 ∷ []) tt (plain (λ _. u64))) yes (λ κs x f. refl), (goes-dropped 𝓤 H A W 3 (shrSliceOf (1 ∷ []) tt (plain (λ _. P.the-row))) yes (λ κs x f. refl), (goes-dropped 𝓤 H A W 3 (plain (λ _. usize)) yes (λ κs x f. refl), (goes-gave-slice 𝓤 H A W 3 2 tt (plain (λ _. u64)), tt)))))
-        (clauses 𝓤 side) (WpFn 𝓤 H (𝓣 .C) (𝓣 .Λ) (function f)) (WpFn-mono 𝓤 H (W .laws) 𝓣 (function f)) (walks (𝓣 .C) (𝓣 .Λ) (fmOf 𝓤 H (W .laws) 𝓣) known)
+        walk-meets 𝓤 H A inner.ended stays W (goes 𝓤 H A W) (clauses 𝓤 side) (WpFn 𝓤 H (𝓣 .C) (𝓣 .Λ) (function f)) (WpFn-mono 𝓤 H (W .laws) 𝓣 (function f)) (walks (𝓣 .C) (𝓣 .Λ) (fmOf 𝓤 H (W .laws) 𝓣) known)

@@ -1,4 +1,5 @@
 pub mod Calling
+pub mod Forms
 pub mod Lending
 mod PassCall
 mod SharesCall

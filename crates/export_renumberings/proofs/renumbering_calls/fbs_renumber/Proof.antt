@@ -12,7 +12,8 @@ use denote.Triple.Spec.{tripleOf}
 use denote.Triple.Table.{entered, cited}
 use Rattle.renumberings.proofs.renumber.Symbol as inner-def
 use Rattle.renumberings.proofs.renumber.Met as inner-thm
-use Rattle.export_renumberings.proofs.CallLaws.{clauses, Inner, meets}
+use Rattle.renumberings.proofs.Forms.{clauses}
+use Rattle.export_renumberings.proofs.CallLaws.{Inner, meets}
 use Rattle.export_renumberings.proofs.renumbering_calls.fbs_renumber.Key.{name as #own}
 use Rattle.export_renumberings.proofs.renumbering_calls.fbs_renumber as own
 use Rattle.export_renumberings.proofs.renumbering_calls.fbs_renumber.Statement as stated

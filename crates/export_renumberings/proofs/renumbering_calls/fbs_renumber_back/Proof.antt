@@ -14,7 +14,8 @@ use denote.Triple.Table.{entered, cited}
 use Rattle.renumberings.specs.Pairs.{sided}
 use Rattle.renumberings.proofs.renumber_back.Symbol as inner-def
 use Rattle.renumberings.proofs.renumber_back.Met as inner-thm
-use Rattle.export_renumberings.proofs.CallLaws.{clauses, Inner, meets}
+use Rattle.renumberings.proofs.Forms.{clauses}
+use Rattle.export_renumberings.proofs.CallLaws.{Inner, meets}
 use Rattle.export_renumberings.proofs.renumbering_calls.fbs_renumber_back.Key.{name as #own}
 use Rattle.export_renumberings.proofs.renumbering_calls.fbs_renumber_back as own
 use Rattle.export_renumberings.proofs.renumbering_calls.fbs_renumber_back.Statement as stated
