@@ -14,6 +14,7 @@ pub mod PairLaws
 pub mod PassLaws
 pub mod LentWords
 pub mod Calling
+pub mod Forms
 pub mod Lending
 pub mod PassCall
 pub mod RenumberCall

@@ -1,4 +1,4 @@
--- A call of `shares`, as a step of a walk: the marks go to it for good at their own lifetime and name, and what it says of their last list is had after the call.
+-- A call of `shares`, as a step of a walk: the marks go to it at their own lifetime and name, and do not come back. What it says of their last list is had after the call.
 -- Assumes `Given`.
 use mathlib.Core.Path.{_≡_, refl}
 use Prim.Native.Nat.{ℕ}
@@ -52,7 +52,7 @@ module _ (κs : Lfts 3) (qs : Shares 3) (a : Args shares.signature κs) (v : Val
   Shared r zs = record { found = r; words = zs } ≡ shared (now (a .1 .1 .0)) (sided (a .1 .0) (now (a .0))) (now (a .1 .1 .1 .0))
 
   module _ {M : Type 1} (𝓤 : URA M) (H : Heap 𝓤) (A : Atoms 𝓤) (W : Given 𝓤 H A) where
-    abbrev pub Parts : List (Item 𝓤)
+    abbrev Parts : List (Item 𝓤)
     Parts = ‵ (flft (κs .0) (qs .0)) ∷ ‵ (flft (κs .1 .0) (qs .1 .0)) ∷ ‵ (flft (κs .1 .1 .0) (qs .1 .1 .0)) ∷ ‵ (ShrSlice (named 0) (κs .0) P.the-row .own (a .0) (slice-vals (a .0))) ∷ ‵ (ShrSlice (named 0) (κs .1 .0) u64 .own (a .1 .1 .0) (slice-vals (a .1 .1 .0))) ∷ ‵ (Mut (κs .1 .1 .0) (a .1 .1 .1 .0) v) ∷ []
 
     asks : ent 𝓤 (⋆ 𝓤 H A Parts) (onEntry 𝓤 H A shares.signature κs qs a at)

@@ -1,5 +1,5 @@
 -- `renumberings::moves::renumber_with` meets its contract: a walk of its MIR, with an exit for a refused set, one for refused pairs, and one for a renumbered set.
--- The buffer is lent to `ask_sets` as a `&` and to `with_capacity` as a `&mut`, and goes to `pass` for good; the marks go to `ask_pairs` for good.
+-- The buffer is lent to `ask_sets` as a `&` and to `with_capacity` as a `&mut`, comes back from both, and goes to `pass`. The marks go to `ask_pairs`.
 -- Assumes nothing.
 use mathlib.Core.Path.{_≡_, refl, _∙_, ap}
 use Prim.Native.Nat.{ℕ}

@@ -1,4 +1,4 @@
--- `renumberings::questions::ask_pairs` meets its contract: a walk of its MIR. The marks are lent to `shares`, come back, are lent to `members_marked` as a `&`, and go to the second `shares` for good.
+-- `renumberings::questions::ask_pairs` meets its contract: a walk of its MIR. The marks are lent to `shares`, come back, are lent to `members_marked` as a `&`, come back, and go to the second `shares`.
 -- Assumes nothing.
 use mathlib.Core.Path.{_≡_, refl, _∙_, ap}
 use Prim.Native.Nat.{ℕ}
@@ -25,11 +25,11 @@ use types.Run.{look, store, init, forget, stop, hop, fld, from, load, addr, lit,
 use sound.WpLaws.{FmC, fmOf, WpFn-mono}
 use denote.RattleType.{owns, flat}
 use denote.Laws.{Is, Are, Ises}
-use denote.Plain.{uint-vals, uint-tells, uint-lawful, uint-makes, bool-vals, bool-tells, bool-lawful, bool-makes}
+use denote.Plain.{uint-vals, uint-lawful, uint-makes, bool-vals, bool-lawful, bool-makes}
 use denote.Builtin.{u64, usize, bool}
 use denote.Ref.{RefT, now, name, at-last}
-use denote.Signature.{typesAt, plain, shrSliceOf}
-use denote.Slice.{sliceVal, MutSlice, ShrSlice, finally, slice-vals, mut-slice-tells, shr-slice-tells, mut-slice-lawful, shr-slice-lawful, shr-slice-copy}
+use denote.Signature.{typesAt}
+use denote.Slice.{sliceVal, MutSlice, ShrSlice, finally, slice-vals, mut-slice-lawful, shr-slice-lawful, shr-slice-copy}
 use denote.Steps.{only, owned, nothing}
 use denote.Enum.Laws as EL
 use denote.Struct.Laws as LL
@@ -38,8 +38,7 @@ use denote.Triple.Bound.{Bound}
 use denote.Triple.Entry.{Args, Vals, onEntry}
 use denote.Triple.Spec.{Meets, tripleOf}
 use denote.Triple.Table.{entered, cited}
-use denote.Triple.Walked.{says, Stays, stay-dropped, gave-slice, walkOf, goes-dropped, goes-gave-slice, Walks, ends-at, walked, walk-meets}
-use denote.Exit.{yes}
+use denote.Triple.Walked.{says, walkOf, Walks, ends-at, walked, walk-meets}
 use Rattle.sets.specs.Members.{read, setOf, empty}
 use Rattle.sets.specs.Questions.{questions}
 use Rattle.sets.specs.declared.fixed_bit_set.FixedBitSet.{FixedBitSet}
@@ -54,6 +53,7 @@ use Rattle.renumberings.specs.declared.steps.Test.{Test}
 use Rattle.renumberings.specs.declared.steps.Test.the-variants.{AtLeast}
 use Rattle.renumberings.proofs.AskLaws.{asked-pairs}
 use Rattle.renumberings.proofs.Calling.{local, calls-met}
+use Rattle.renumberings.proofs.Forms.{sided-stays, sided-spelled, sided-told, sided-goes}
 use Rattle.renumberings.proofs.Lending.{Shr, under, lends-mut, mut-back, lends-shr, shr-back}
 use Rattle.renumberings.proofs.SharesCall.{Asked, calls-shares}
 use Rattle.renumberings.proofs.pair.Pair as P
@@ -89,9 +89,6 @@ answered set ws back ps n marks zs zs′ old new beyond paired r e₁ e₂ e₃ 
     let is-paired : paired ≡ isSubsetRule set ws (setOf (empty 65536)) (shared ws (sided back ps) marks .words) .yes = e₂ ∙ ap (λ (m : List ℕ). isSubsetRule set ws (setOf (empty 65536)) m .yes) same in
     e₅ ∙ (λ i. pairsNumber (is-old i) (is-new i) (e₄ i) (is-paired i)) ∙ asked-pairs set ws back ps n marks long good
 
-abbrev stayed : Stays (own.ended .signature .params) (own.ended .kept)
-stayed = (stay-dropped (plain (λ _. F.the-row)) yes, (stay-dropped (shrSliceOf (0 ∷ []) tt (plain (λ _. u64))) yes, (stay-dropped (shrSliceOf (1 ∷ []) tt (plain (λ _. P.the-row))) yes, (stay-dropped (plain (λ _. bool)) yes, (stay-dropped (plain (λ _. usize)) yes, (gave-slice (2 ∷ []) tt (plain (λ _. u64)), tt))))))
-
 -- what is known of the callees
 module _ {M : Type 1} (𝓤 : URA M) (H : Heap 𝓤) (A : Atoms 𝓤) (mem : Memory → SProp 𝓤) (run : Routine → Fun 𝓤) (C : Calls 𝓤 H) where
   abbrev Known : Type 1
@@ -115,7 +112,7 @@ module _ {M : Type 1} (𝓤 : URA M) (H : Heap 𝓤) (A : Atoms 𝓤) (W : Given
   at = (F′.lowered (a .0) ∷ [], (slice-vals (a .1 .0), (slice-vals (a .1 .1 .0), (bool-vals back, (uint-vals w64 bits, (slice-vals x, tt))))))
 
   abbrev Post : Val → SProp 𝓤
-  Post = walkOf 𝓤 H A own.ended stayed (own.clauses 𝓤 H A mem run) .post ((κs, qs, tt, a, at), tt)
+  Post = walkOf 𝓤 H A own.ended sided-stays (own.clauses 𝓤 H A mem run) .post ((κs, qs, tt, a, at), tt)
 
   abbrev Own : Fml
   Own = owns (F.the-row ∷ ShrSlice (named 0) (κs .0) u64 ∷ ShrSlice (named 1) (κs .1 .0) P.the-row ∷ bool ∷ usize ∷ MutSlice (named 2) (κs .1 .1 .0) u64 ∷ []) a at
@@ -176,7 +173,7 @@ module _ {M : Type 1} (𝓤 : URA M) (H : Heap 𝓤) (A : Atoms 𝓤) (W : Given
       → ent 𝓤 (⋆ 𝓤 H A (‵ (u64 .own r (u ∷ [])) ∷ Tokens ∷ ‵ (finally u64 (name x) zs) ∷ [])) (Post u)
   exits r u zs e l =
       qed W (‵ (u64 .own r (u ∷ [])) ∷ Tokens ∷ ‵ (finally u64 (name x) zs) ∷ []) ∵
-      suffices ! _ (ends-at 𝓤 H A own.ended stayed (own.clauses 𝓤 H A mem run) W ((κs, qs, tt, a, at), tt) u r (tt, (tt, (tt, (tt, (tt, (zs, tt)))))) (tt, (tt, (tt, (tt, (tt, (l, tt))))))) $ says ! e $
+      suffices ! _ (ends-at 𝓤 H A own.ended sided-stays (own.clauses 𝓤 H A mem run) W ((κs, qs, tt, a, at), tt) u r (tt, (tt, (tt, (tt, (tt, (zs, tt)))))) (tt, (tt, (tt, (tt, (tt, (l, tt))))))) $ says ! e $
       move ! (1 ∷ []) $ split ! $ move ! (1 ∷ []) $ split ! $ move ! (2 ∷ 1 ∷ []) $ join ! $ move ! (1 ∷ 0 ∷ []) $ join ! $ frame ! $
       nothing ! $ move ! (2 ∷ 0 ∷ []) $ fjoin ! $ nothing ! $ fjoin ! $ nothing ! $ fjoin ! $ nothing ! $ fjoin ! $ nothing ! $ fjoin ! $ nothing ! $ fjoin ! $ frame ! $ done !
 
@@ -242,17 +239,14 @@ module _ {M : Type 1} (𝓤 : URA M) (H : Heap 𝓤) (A : Atoms 𝓤) (W : Given
         keep ! (0 ∷ 3 ∷ 4 ∷ []) $ by ! (exits r u zs′ (answered (a .0) (now (a .1 .0)) back (now (a .1 .1 .0)) bits (now x) zs zs′ old new beyond paired r e₁ e₂ e₃ (e₅ ∙ ap (λ (t : Test). found t (sided (not back) (dropped 0 (now (a .1 .1 .0))))) e₄) e) (l₃′ ∙ l₁′)))))))))))))))))))))))))))))
 
 module _ {M : Type 1} (𝓤 : URA M) (H : Heap 𝓤) (A : Atoms 𝓤) (W : Given 𝓤 H A) (mem : Memory → SProp 𝓤) (run : Routine → Fun 𝓤) where
-  own-walks : (C : Calls 𝓤 H) (Λ : Loops 𝓤 H) → FmC 𝓤 H (W .laws) C → Known 𝓤 H A mem run C → Walks 𝓤 H A own.ended stayed (WpFn 𝓤 H C Λ code.function) (own.clauses 𝓤 H A mem run)
-  own-walks C Λ fm known = walked 𝓤 H A own.ended stayed (own.clauses 𝓤 H A mem run) (WpFn 𝓤 H C Λ code.function) (λ κs. (LL.vals F.the-type F′.the-laws, (slice-vals, (slice-vals, (bool-vals, (uint-vals w64, (slice-vals, tt)))))))
-      (λ κs. (LL.tells F.the-type F′.the-laws, (shr-slice-tells (named 0) (κs .0) u64, (shr-slice-tells (named 1) (κs .1 .0) P.the-row, (bool-tells, (uint-tells w64, (mut-slice-tells (named 2) (κs .1 .1 .0) u64, tt)))))))
+  own-walks : (C : Calls 𝓤 H) (Λ : Loops 𝓤 H) → FmC 𝓤 H (W .laws) C → Known 𝓤 H A mem run C → Walks 𝓤 H A own.ended sided-stays (WpFn 𝓤 H C Λ code.function) (own.clauses 𝓤 H A mem run)
+  own-walks C Λ fm known = walked 𝓤 H A own.ended sided-stays (own.clauses 𝓤 H A mem run) (WpFn 𝓤 H C Λ code.function) sided-spelled sided-told
       (λ κs qs bounds a g are. via 𝓤 _ (fst∗ 𝓤 _ (emp 𝓤)) (walk 𝓤 H A W mem run κs qs a C Λ fm known are))
 
 own-meets : {M : Type 1} (𝓤 : URA M) (H : Heap 𝓤) (A : Atoms 𝓤) (W : Given 𝓤 H A) (mem : Memory → SProp 𝓤) (run : Routine → Fun 𝓤) (𝓣 : Tables 𝓤 H) → Known 𝓤 H A mem run (𝓣 .C)
     → Meets 𝓤 H A own.signature (WpFn 𝓤 H (𝓣 .C) (𝓣 .Λ) code.function) (own.spec 𝓤 H A mem run)
 own-meets 𝓤 H A W mem run 𝓣 known =
-    walk-meets 𝓤 H A own.ended stayed W
-    (goes-dropped 𝓤 H A W 3 (plain (λ _. F.the-row)) yes (λ κs x f. refl), (goes-dropped 𝓤 H A W 3 (shrSliceOf (0 ∷ []) tt (plain (λ _. u64))) yes (λ κs x f. refl), (goes-dropped 𝓤 H A W 3 (shrSliceOf (1 ∷ []) tt (plain (λ _. P.the-row))) yes (λ κs x f. refl), (goes-dropped 𝓤 H A W 3 (plain (λ _. bool)) yes (λ κs x f. refl), (goes-dropped 𝓤 H A W 3 (plain (λ _. usize)) yes (λ κs x f. refl), (goes-gave-slice 𝓤 H A W 3 2 tt (plain (λ _. u64)), tt))))))
-    (own.clauses 𝓤 H A mem run) (WpFn 𝓤 H (𝓣 .C) (𝓣 .Λ) code.function) (WpFn-mono 𝓤 H (W .laws) 𝓣 code.function) (own-walks 𝓤 H A W mem run (𝓣 .C) (𝓣 .Λ) (fmOf 𝓤 H (W .laws) 𝓣) known)
+    walk-meets 𝓤 H A own.ended sided-stays W (sided-goes 𝓤 H A W) (own.clauses 𝓤 H A mem run) (WpFn 𝓤 H (𝓣 .C) (𝓣 .Λ) code.function) (WpFn-mono 𝓤 H (W .laws) 𝓣 code.function) (own-walks 𝓤 H A W mem run (𝓣 .C) (𝓣 .Λ) (fmOf 𝓤 H (W .laws) 𝓣) known)
 
 pub ask-pairs-spec : {M : Type 1} → stated.statement M
 unfolding code.routine tablesOf
