@@ -13,6 +13,8 @@ pub mod BackLaws
 pub mod PairLaws
 pub mod PassLaws
 pub mod Calling
+pub mod Forms
 pub mod Lending
 pub mod PassCall
 pub mod RenumberCall
+pub mod SharesCall

@@ -1,4 +1,4 @@
--- A call of `pass`, as a step of a walk: the words go to it for good at their own lifetime and name, and what it says of their last list is had after the call.
+-- A call of `pass`, as a step of a walk: the words go to it at their own lifetime and name, and do not come back. What it says of their last list is had after the call.
 -- Assumes `Given`.
 use mathlib.Core.Path.{_≡_, refl}
 use Prim.Native.Nat.{ℕ}
@@ -55,11 +55,12 @@ module _ (κs : Lfts 3) (qs : Shares 3) (a : Args pass.signature κs) (v : Val) 
   Passed r zs = record { found = r; words = zs } ≡ passed (a .1 .1 .0) (now (a .1 .1 .1 .0)) (sided (a .1 .0) (now (a .0))) (now (a .1 .1 .1 .1 .0))
 
   module _ {M : Type 1} (𝓤 : URA M) (H : Heap 𝓤) (A : Atoms 𝓤) (W : Given 𝓤 H A) where
-    asks : Is T.the-row (a .1 .1 .0) (T′.lowered (a .1 .1 .0) ∷ [])
-        → ent 𝓤 (⋆ 𝓤 H A (‵ (flft (κs .0) (qs .0)) ∷ ‵ (flft (κs .1 .0) (qs .1 .0)) ∷ ‵ (flft (κs .1 .1 .0) (qs .1 .1 .0)) ∷ ‵ (ShrSlice (named 0) (κs .0) P.the-row .own (a .0) (slice-vals (a .0))) ∷ ‵ (ShrSlice (named 0) (κs .1 .0) u64 .own (a .1 .1 .1 .0) (slice-vals (a .1 .1 .1 .0))) ∷ ‵ (Mut (κs .1 .1 .0) (a .1 .1 .1 .1 .0) v) ∷ []))
-        (onEntry 𝓤 H A pass.signature κs qs a at)
+    abbrev Parts : List (Item 𝓤)
+    Parts = ‵ (flft (κs .0) (qs .0)) ∷ ‵ (flft (κs .1 .0) (qs .1 .0)) ∷ ‵ (flft (κs .1 .1 .0) (qs .1 .1 .0)) ∷ ‵ (ShrSlice (named 0) (κs .0) P.the-row .own (a .0) (slice-vals (a .0))) ∷ ‵ (ShrSlice (named 0) (κs .1 .0) u64 .own (a .1 .1 .1 .0) (slice-vals (a .1 .1 .1 .0))) ∷ ‵ (Mut (κs .1 .1 .0) (a .1 .1 .1 .1 .0) v) ∷ []
+
+    asks : Is T.the-row (a .1 .1 .0) (T′.lowered (a .1 .1 .0) ∷ []) → ent 𝓤 (⋆ 𝓤 H A Parts) (onEntry 𝓤 H A pass.signature κs qs a at)
     asks is =
-        qed W (‵ (flft (κs .0) (qs .0)) ∷ ‵ (flft (κs .1 .0) (qs .1 .0)) ∷ ‵ (flft (κs .1 .1 .0) (qs .1 .1 .0)) ∷ ‵ (ShrSlice (named 0) (κs .0) P.the-row .own (a .0) (slice-vals (a .0))) ∷ ‵ (ShrSlice (named 0) (κs .1 .0) u64 .own (a .1 .1 .1 .0) (slice-vals (a .1 .1 .1 .0))) ∷ ‵ (Mut (κs .1 .1 .0) (a .1 .1 .1 .1 .0) v) ∷ []) ∵
+        qed W Parts ∵
         nothing ! $ move ! (3 ∷ 0 ∷ []) $ join ! $ move ! (2 ∷ 0 ∷ []) $ join ! $ move ! (1 ∷ 0 ∷ []) $ join ! $ frame ! $
         -- [the pairs; the old words; the words]
         nothing ! $ move ! (3 ∷ 0 ∷ []) $ fjoin ! $ move ! (2 ∷ 0 ∷ []) $ fjoin ! $ owned ! T.the-row (Is T.the-row) (EL.makes T.the-type T′.the-plain 𝓤 H A) (a .1 .1 .0) _ is $ fjoin ! $

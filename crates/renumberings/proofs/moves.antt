@@ -1,2 +1,3 @@
 -- Laws of the functions that pass a list of pairs on.
-pub mod SideLaws
+mod NumberLaws
+mod SideLaws

@@ -14,7 +14,8 @@ use denote.Triple.Spec.{tripleOf}
 use denote.Triple.Table.{entered, cited}
 use Rattle.renumberings.specs.Pairs.{sided, sidedPair}
 use Rattle.renumberings.specs.declared.pair.Pair.{Pair}
-use Rattle.renumberings.proofs.moves.SideLaws.{clauses, Inner, meets}
+use Rattle.renumberings.proofs.Forms.{clauses}
+use Rattle.renumberings.proofs.moves.SideLaws.{Inner, meets}
 use Rattle.renumberings.proofs.moves.renumber_sided.Symbol as inner-def
 use Rattle.renumberings.proofs.moves.renumber_sided.Met as inner-thm
 use Rattle.renumberings.proofs.moves.renumber.Key.{name as #own}

@@ -12,7 +12,8 @@ use contract.Running.{givenOf, tables, tablesOf}
 use denote.Triple.Spec.{tripleOf}
 use denote.Triple.Table.{entered, cited}
 use Rattle.renumberings.specs.Pairs.{sided}
-use Rattle.renumberings.proofs.moves.SideLaws.{clauses, Inner, meets}
+use Rattle.renumberings.proofs.Forms.{clauses}
+use Rattle.renumberings.proofs.moves.SideLaws.{Inner, meets}
 use Rattle.renumberings.proofs.moves.renumber_sided.Symbol as inner-def
 use Rattle.renumberings.proofs.moves.renumber_sided.Met as inner-thm
 use Rattle.renumberings.proofs.moves.renumber_back.Key.{name as #own}

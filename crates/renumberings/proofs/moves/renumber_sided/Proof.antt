@@ -1,4 +1,4 @@
--- `renumberings::moves::renumber_sided` meets its contract: a walk of its MIR. The marks are a local array, which is lent for the call; the buffer of the result goes to the callee for good.
+-- `renumberings::moves::renumber_sided` meets its contract: a walk of its MIR. The marks are a local array, which is lent for the call. The buffer goes to the callee at its own lifetime and name, and does not come back.
 -- Assumes nothing.
 use mathlib.Core.Path.{_≡_, refl}
 use Prim.Native.Nat.{ℕ}
@@ -16,29 +16,27 @@ use prog.Routine.{Routine}
 use prog.Wp.{Heap, Calls, Loops, WpFn, Tables}
 use ghost.Atoms.{Atoms, sem}
 use contract.Lifetimes.{Lfts, Shares}
-use contract.Monad.{Fun, fact}
+use contract.Monad.{Fun}
 use contract.Running.{givenOf, tables, tablesOf}
-use types.Kit.{Given, Item, ‵, raw, given, mean, _⊛_, ⋆, some, later, _$_, _∵_, !, qed, by, move, use1, use3, split, join, pick, learn, fsplit, fjoin, feqL, suffices, frame, await, show, check, keep, drop, done}
+use types.Kit.{Given, Item, ‵, raw, mean, _⊛_, ⋆, _$_, _∵_, !, qed, by, move, use1, use3, split, join, fsplit, fjoin, feqL, suffices, frame, drop, done}
 use types.Part.{agg, rep, whole, sub, look-in}
 use types.Run.{look, init, forget, stop, hop, fld, from, load, addr, lit, and-then, no-more, assigns, land, returns, enter, alloc1, alloc0, params1, pass1, pass0, free1, free0}
 use sound.WpLaws.{FmC, fmOf, WpFn-mono}
 use denote.RattleType.{owns, flat}
-use denote.Laws.{Is, Are, Ises, shows}
-use denote.Plain.{uint-vals, uint-tells, uint-lawful, bool-vals, bool-tells, bool-lawful}
+use denote.Laws.{Are, Ises}
+use denote.Plain.{uint-vals, uint-lawful, bool-vals, bool-lawful}
 use denote.Builtin.{u64, usize, bool}
 use denote.Ref.{RefT, now, name}
-use denote.Signature.{typesAt, plain, shrSliceOf}
-use denote.Slice.{sliceVal, MutSlice, ShrSlice, Room, finally, slice-vals, mut-slice-tells, shr-slice-tells, mut-slice-lawful, shr-slice-lawful}
-use denote.Steps.{nothing, peeks, heard}
+use denote.Signature.{typesAt}
+use denote.Slice.{sliceVal, MutSlice, ShrSlice, Room, finally, slice-vals, mut-slice-lawful, shr-slice-lawful}
+use denote.Steps.{nothing}
 use denote.Struct.Laws as LL
 use denote.Triple.Statement.{Contract, Triple}
-use denote.Triple.Call.{calls-at}
+use denote.Triple.Bound.{Bound}
 use denote.Triple.Entry.{Args, Vals, onEntry}
 use denote.Triple.Spec.{Meets, tripleOf}
 use denote.Triple.Table.{entered, cited}
-use denote.Triple.Walked.{says, Stays, stay-dropped, gave-slice, walkOf, goes-dropped, goes-gave-slice, Walks, ends-at, walked, walk-meets}
-use denote.Triple.Clauses.{Lasts, ensured, lasts}
-use denote.Exit.{yes}
+use denote.Triple.Walked.{says, walkOf, Walks, ends-at, walked, walk-meets}
 use Rattle.sets.specs.Outcomes.{outcome}
 use Rattle.sets.proofs.fixed_bit_set.FixedBitSet as F
 use Rattle.sets.proofs.fixed_bit_set.FixedBitSet.Laws as F′
@@ -47,6 +45,8 @@ use Rattle.sets.proofs.answers.Edited as E
 use Rattle.sets.proofs.answers.Edited.Laws as E′
 use Rattle.renumberings.specs.Pairs.{sided}
 use Rattle.renumberings.specs.Rules.{renumberRule}
+use Rattle.renumberings.proofs.Calling.{local, calls-met}
+use Rattle.renumberings.proofs.Forms.{sided-stays, sided-spelled, sided-told, sided-goes}
 use Rattle.renumberings.proofs.Lending.{Mut, words-at, zeroes-typed, lends-array, array-back, big-lit}
 use Rattle.renumberings.proofs.pair.Pair as P
 use Rattle.renumberings.proofs.moves.renumber_with as inner
@@ -56,9 +56,6 @@ use Rattle.renumberings.proofs.moves.renumber_sided.Key.{name as #own}
 use Rattle.renumberings.proofs.moves.renumber_sided as own
 use Rattle.renumberings.proofs.moves.renumber_sided.Statement as stated
 use Rattle.renumberings.proofs.moves.renumber_sided.Code as code
-
-abbrev stayed : Stays (own.ended .signature .params) (own.ended .kept)
-stayed = (stay-dropped (plain (λ _. F.the-row)) yes, (stay-dropped (shrSliceOf (0 ∷ []) tt (plain (λ _. u64))) yes, (stay-dropped (shrSliceOf (1 ∷ []) tt (plain (λ _. P.the-row))) yes, (stay-dropped (plain (λ _. bool)) yes, (stay-dropped (plain (λ _. usize)) yes, (gave-slice (2 ∷ []) tt (plain (λ _. u64)), tt))))))
 
 module _ {M : Type 1} (𝓤 : URA M) (H : Heap 𝓤) (A : Atoms 𝓤) (mem : Memory → SProp 𝓤) (run : Routine → Fun 𝓤) where
   -- what is known of `renumber_with`
@@ -76,7 +73,7 @@ module _ {M : Type 1} (𝓤 : URA M) (H : Heap 𝓤) (A : Atoms 𝓤) (W : Given
   at = (F′.lowered (a .0) ∷ [], (slice-vals (a .1 .0), (slice-vals (a .1 .1 .0), (bool-vals (a .1 .1 .1 .0), (uint-vals w64 (a .1 .1 .1 .1 .0), (slice-vals x, tt))))))
 
   abbrev Post : Val → SProp 𝓤
-  Post = walkOf 𝓤 H A own.ended stayed (own.clauses 𝓤 H A mem run) .post ((κs, qs, tt, a, at), tt)
+  Post = walkOf 𝓤 H A own.ended sided-stays (own.clauses 𝓤 H A mem run) .post ((κs, qs, tt, a, at), tt)
 
   abbrev Own : Fml
   Own = owns (F.the-row ∷ ShrSlice (named 0) (κs .0) u64 ∷ ShrSlice (named 1) (κs .1 .0) P.the-row ∷ bool ∷ usize ∷ MutSlice (named 2) (κs .1 .1 .0) u64 ∷ []) a at
@@ -95,13 +92,13 @@ module _ {M : Type 1} (𝓤 : URA M) (H : Heap 𝓤) (A : Atoms 𝓤) (W : Given
     abbrev passed : Vals inner.signature lfts
     passed = (at .0, (at .1 .0, (at .1 .1 .0, (at .1 .1 .1 .0, (at .1 .1 .1 .1 .0, (at .1 .1 .1 .1 .1 .0, (sliceVal (b, 0) 1024 ∷ [], tt)))))))
 
-    abbrev to : Inner 𝓤 H A mem run .Ghost
-    to = ((lfts, (qs .0, (qs .1 .0, (qs .1 .1 .0, (fullShare, tt)))), tt, given-on, passed), tt)
+    abbrev to : Bound 𝓤 H A inner.signature
+    to = (lfts, (qs .0, (qs .1 .0, (qs .1 .1 .0, (fullShare, tt)))), tt, given-on, passed)
 
     abbrev Tokens : Item 𝓤
     Tokens = ‵ (flft (κs .0) (qs .0)) ⊛ ‵ (flft (κs .1 .0) (qs .1 .0)) ⊛ ‵ (flft (κs .1 .1 .0) (qs .1 .1 .0)) ⊛ ‵ (flft (ν ∷ []) fullShare) ⊛ ‵ ftrue
 
-    asks : ent 𝓤 (sep 𝓤 (onEntry 𝓤 H A own.signature κs qs a at) (sep 𝓤 (A .lft (ν ∷ []) fullShare) (sem 𝓤 H A (Mut (ν ∷ []) (words-at 1024 b δ) (sliceVal (b, 0) 1024))))) (Inner 𝓤 H A mem run .pre to)
+    asks : ent 𝓤 (sep 𝓤 (onEntry 𝓤 H A own.signature κs qs a at) (sep 𝓤 (A .lft (ν ∷ []) fullShare) (sem 𝓤 H A (Mut (ν ∷ []) (words-at 1024 b δ) (sliceVal (b, 0) 1024))))) (onEntry 𝓤 H A inner.signature (to .0) (to .1) (to .3) (to .4))
     asks =
         qed W ((Alive ⊛ ‵ Own) ∷ ‵ (flft (ν ∷ []) fullShare) ∷ ‵ (Mut (ν ∷ []) (words-at 1024 b δ) (sliceVal (b, 0) 1024)) ∷ []) ∵ split ! $ split ! $ move ! (1 ∷ []) $ split ! $ move ! (1 ∷ []) $ split ! $
         -- [out's token; true; pairs' token; words' token; the parameters; the new token; the marks]
@@ -109,7 +106,7 @@ module _ {M : Type 1} (𝓤 : URA M) (H : Heap 𝓤) (A : Atoms 𝓤) (W : Given
         fsplit ! $ move ! (1 ∷ []) $ fsplit ! $ move ! (1 ∷ []) $ fsplit ! $ move ! (1 ∷ []) $ fsplit ! $ move ! (1 ∷ []) $ fsplit ! $ move ! (1 ∷ []) $ fsplit ! $
         -- [the buffer; true; the length; the side; the pairs; the words; the set; the tokens; the marks]
         move ! (8 ∷ 1 ∷ []) $ fjoin ! $ move ! (1 ∷ 0 ∷ []) $ fjoin ! $ move ! (1 ∷ 0 ∷ []) $ fjoin ! $ move ! (1 ∷ 0 ∷ []) $ fjoin ! $ move ! (1 ∷ 0 ∷ []) $ fjoin ! $ move ! (1 ∷ 0 ∷ []) $ fjoin ! $ move ! (1 ∷ 0 ∷ []) $ fjoin ! $
-        move ! (1 ∷ 0 ∷ []) $ join ! $ frame ! $ done !
+        move ! (1 ∷ []) $ frame ! $ done !
 
     tokens : ent 𝓤 (mean 𝓤 H A Tokens) (mean 𝓤 H A (Alive ⊛ ‵ (flft (ν ∷ []) fullShare)))
     tokens =
@@ -117,26 +114,13 @@ module _ {M : Type 1} (𝓤 : URA M) (H : Heap 𝓤) (A : Atoms 𝓤) (W : Given
         -- [the new token; true; out's; pairs'; words']
         move ! (2 ∷ 1 ∷ []) $ join ! $ move ! (2 ∷ 0 ∷ []) $ join ! $ move ! (2 ∷ 0 ∷ []) $ join ! $ frame ! $ done !
 
-    abbrev Said : Edited → List ℕ → Type 0
-    Said r zs = (outcome r zs ≡ renumberRule (a .0) (now (a .1 .0)) (sided (a .1 .1 .1 .0) (now (a .1 .1 .0))) (a .1 .1 .1 .1 .0) (now x)) × (length zs ≡ length (now x))
+  abbrev Said : Edited → List ℕ → Type 0
+  Said r zs = outcome r zs ≡ renumberRule (a .0) (now (a .1 .0)) (sided (a .1 .1 .1 .0) (now (a .1 .1 .0))) (a .1 .1 .1 .1 .0) (now x)
 
-    abbrev Last : Edited → Item 𝓤
-    Last r = some (λ (zs : List ℕ × List ℕ). given (Said r (zs .0)) (‵ (finally u64 (name x) (zs .0)) ⊛ ‵ (finally u64 δ (zs .1))))
-
-    abbrev Says : Edited → Lasts inner.ended lfts given-on → Type 0
-    Says r zs = length (now (words-at 1024 b δ)) ≡ 1024 → outcome r (zs .1 .1 .1 .1 .1 .0) ≡ renumberRule (a .0) (now (a .1 .0)) (sided (a .1 .1 .1 .0) (now (a .1 .1 .0))) (a .1 .1 .1 .1 .0) (now x)
-
-    said : (r : Edited) → ent 𝓤 (ensured 𝓤 H A inner.ended (inner.clauses 𝓤 H A mem run) lfts given-on tt r) (mean 𝓤 H A (Last r))
-    said r =
-        qed W (raw (ensured 𝓤 H A inner.ended (inner.clauses 𝓤 H A mem run) lfts given-on tt r) ∷ []) ∵
-        use1 W (some (λ (zs : Lasts inner.ended lfts given-on). ‵ (lasts inner.ended lfts given-on zs) ⊛ raw (fact 𝓤 (Says r zs)))) (id⊢ 𝓤 _) $ pick ! (λ zs. split ! $ move ! (1 ∷ []) $ heard ! (Says r zs) (λ e.
-        fsplit ! $ drop ! $ fsplit ! $ drop ! $ fsplit ! $ drop ! $ fsplit ! $ drop ! $ fsplit ! $ drop ! $ fsplit ! $ fsplit ! $ move ! (1 ∷ []) $ feqL ! (λ l. move ! (1 ∷ []) $ fsplit ! $ fsplit ! $
-        show ! (λ (ys : List ℕ × List ℕ). mean 𝓤 H A (given (Said r (ys .0)) (‵ (finally u64 (name x) (ys .0)) ⊛ ‵ (finally u64 δ (ys .1))))) (zs .1 .1 .1 .1 .1 .0, zs .1 .1 .1 .1 .1 .1 .0) $ check ! (e (length-replicate {A = ℕ} 1024 0), l) $ keep ! (3 ∷ 0 ∷ []) $ done !)))
-
-  exits : (b ν : ℕ) (δ : GName) (r : Edited) (u : Val) (zs : List ℕ) → Said b ν δ r zs → ent 𝓤 (⋆ 𝓤 H A (‵ (E.the-row .own r (u ∷ [])) ∷ Alive ∷ ‵ (finally u64 (name x) zs) ∷ [])) (Post u)
-  exits b ν δ r u zs e =
+  exits : (r : Edited) (u : Val) (zs : List ℕ) → Said r zs → length zs ≡ length (now x) → ent 𝓤 (⋆ 𝓤 H A (‵ (E.the-row .own r (u ∷ [])) ∷ Alive ∷ ‵ (finally u64 (name x) zs) ∷ [])) (Post u)
+  exits r u zs e l =
       qed W (‵ (E.the-row .own r (u ∷ [])) ∷ Alive ∷ ‵ (finally u64 (name x) zs) ∷ []) ∵
-      suffices ! _ (ends-at 𝓤 H A own.ended stayed (own.clauses 𝓤 H A mem run) W ((κs, qs, tt, a, at), tt) u r (tt, (tt, (tt, (tt, (tt, (zs, tt)))))) (tt, (tt, (tt, (tt, (tt, (e .1, tt))))))) $ says ! (e .0) $
+      suffices ! _ (ends-at 𝓤 H A own.ended sided-stays (own.clauses 𝓤 H A mem run) W ((κs, qs, tt, a, at), tt) u r (tt, (tt, (tt, (tt, (tt, (zs, tt)))))) (tt, (tt, (tt, (tt, (tt, (l, tt))))))) $ says ! e $
       move ! (1 ∷ []) $ frame ! $ nothing ! $ move ! (2 ∷ 0 ∷ []) $ fjoin ! $ nothing ! $ fjoin ! $ nothing ! $ fjoin ! $ nothing ! $ fjoin ! $ nothing ! $ fjoin ! $ nothing ! $ fjoin ! $ frame ! $ done !
 
   module _ (C : Calls 𝓤 H) (Λ : Loops 𝓤 H) (fm : FmC 𝓤 H (W .laws) C) (known : Triple 𝓤 (C inner-def.name) (Inner 𝓤 H A mem run)) where
@@ -153,37 +137,36 @@ module _ {M : Type 1} (𝓤 : URA M) (H : Heap 𝓤) (A : Atoms 𝓤) (W : Given
         -- [_11; ..; .. ; room for _0; ..; what the parameters own]
         assigns ! (rep ! 1024 (lit ! tt)) (from ! (stop !)) (init ! 8 refl (zeroes-typed 𝓤 H A W 1024)) $
         assigns ! (addr ! (from ! (fld ! refl (hop ! (look-in ! 10 (sub ! 0 refl (whole !))) (stop !))))) (from ! (stop !)) (init ! 6 refl (tt, tt)) $
-        assigns ! (agg ! (and-then ! (load ! (from ! (stop !)) (look ! 6 refl)) (and-then ! (load ! (from ! (fld ! refl (stop !))) (look-in ! 10 (sub ! 1 refl (whole !)))) (no-more !)))) (from ! (stop !)) (init ! 4 refl (mut-slice-lawful 𝓤 H A W erased (κs .1 .1 .0) u64 .typed x _ (are .1 .1 .1 .1 .1 .0) .0)) $
+        assigns ! (agg ! (and-then ! (local ! 6 refl) (and-then ! (load ! (from ! (fld ! refl (stop !))) (look-in ! 10 (sub ! 1 refl (whole !)))) (no-more !)))) (from ! (stop !)) (init ! 4 refl (mut-slice-lawful 𝓤 H A W erased (κs .1 .1 .0) u64 .typed x _ (are .1 .1 .1 .1 .1 .0) .0)) $
         assigns ! (addr ! (from ! (stop !))) (from ! (stop !)) (init ! 2 refl (tt, tt)) $
-        assigns ! (agg ! (and-then ! (load ! (from ! (stop !)) (look ! 2 refl)) (and-then ! (big-lit ! (record { fits = lit< tt })) (no-more !)))) (from ! (stop !)) (init ! 0 refl (tt, (tt, (record { fits = lit< tt }, tt)))) $
+        assigns ! (agg ! (and-then ! (local ! 2 refl) (and-then ! (big-lit ! (record { fits = lit< tt })) (no-more !)))) (from ! (stop !)) (init ! 0 refl (tt, (tt, (record { fits = lit< tt }, tt)))) $
         move ! (8 ∷ []) $ lends-array ! tt 1024 l₇ room (λ ν δ.
         -- [the new token; the marks; the lender's part; _11; ..; what the parameters own]
-        move ! (26 ∷ 0 ∷ 1 ∷ []) $ use3 W (raw (Inner 𝓤 H A mem run .pre (to l₇ ν δ))) (asks l₇ ν δ) $
-        calls-at ! fm (Inner 𝓤 H A mem run) known (to l₇ ν δ) (and-then ! (load ! (from ! (stop !)) (look ! 21 refl)) (and-then ! (load ! (from ! (stop !)) (look ! 19 refl)) (and-then ! (load ! (from ! (stop !)) (look ! 17 refl)) (and-then ! (load ! (from ! (stop !)) (look ! 15 refl)) (and-then ! (load ! (from ! (stop !)) (look ! 13 refl)) (and-then ! (load ! (from ! (stop !)) (look ! 6 refl)) (and-then ! (load ! (from ! (stop !)) (look ! 2 refl)) (no-more !)))))))) (λ u.
-        use1 W (later (some (λ (r : Edited). (Tokens l₇ ν δ ⊛ ‵ (E.the-row .own r (u ∷ []))) ⊛ raw (ensured 𝓤 H A inner.ended (inner.clauses 𝓤 H A mem run) (lfts l₇ ν δ) (given-on l₇ ν δ) tt r)))) (id⊢ 𝓤 _) $ await ! tt $ pick ! (λ r.
-        split ! $ move ! (1 ∷ []) $ use1 W (Last l₇ ν δ r) (said l₇ ν δ r) $ pick ! (λ zs. learn ! (λ e. split ! $ move ! (2 ∷ []) $ split ! $ use1 W (Alive ⊛ ‵ (flft (ν ∷ []) fullShare)) (tokens l₇ ν δ) $ split ! $
-        -- [the tokens; the new token; the result; the last words; the last marks; the lender's part; _11; ..; room for _0; ..]
-        move ! (1 ∷ 5 ∷ 4 ∷ []) $ array-back ! tt 1024 l₇ (zs .1) $ move ! (2 ∷ []) $
+        move ! (26 ∷ 0 ∷ 1 ∷ []) $ use3 W (raw (onEntry 𝓤 H A inner.signature (to l₇ ν δ .0) (to l₇ ν δ .1) (to l₇ ν δ .3) (to l₇ ν δ .4))) (asks l₇ ν δ) $
+        calls-met ! fm inner.ended (inner.clauses 𝓤 H A mem run) known (to l₇ ν δ) tt (id⊢ 𝓤 _) (λ r zs. length (now (words-at 1024 l₇ δ)) ≡ 1024 → Said r (zs .1 .1 .1 .1 .1 .0)) (λ r zs. refl)
+        (and-then ! (local ! 21 refl) (and-then ! (local ! 19 refl) (and-then ! (local ! 17 refl) (and-then ! (local ! 15 refl) (and-then ! (local ! 13 refl) (and-then ! (local ! 6 refl) (and-then ! (local ! 2 refl) (no-more !)))))))) (λ u r zs e is.
+        -- [the result; the tokens; the last values; the lender's part; _11; ..; room for _0; ..]
+        move ! (2 ∷ []) $ fsplit ! $ drop ! $ fsplit ! $ drop ! $ fsplit ! $ drop ! $ fsplit ! $ drop ! $ fsplit ! $ drop ! $ fsplit ! $ fsplit ! $ move ! (1 ∷ []) $ feqL ! (λ l. move ! (1 ∷ []) $ fsplit ! $ fsplit ! $
+        -- [the last marks; their length; true; the last words; the result; the tokens; the lender's part; _11; ..]
+        move ! (1 ∷ 2 ∷ []) $ drop ! $ drop ! $ move ! (3 ∷ []) $ use1 W (Alive ⊛ ‵ (flft (ν ∷ []) fullShare)) (tokens l₇ ν δ) $ split ! $
+        -- [the tokens; the new token; the last marks; the last words; the result; the lender's part; _11; ..]
+        move ! (1 ∷ 5 ∷ 2 ∷ []) $ array-back ! tt 1024 l₇ (zs .1 .1 .1 .1 .1 .1 .0) $ move ! (3 ∷ 0 ∷ 1 ∷ 2 ∷ []) $
         -- [the result; room for _7; the tokens; the last words; _11; ..; room for _0; ..]
-        peeks ! E.the-row (Is E.the-row) (shows 𝓤 H A E.the-row) r (u ∷ []) (λ is.
         land ! (from ! (stop !)) (init ! 25 refl (LL.lawful E.the-type E′.the-laws 𝓤 H A W .typed r _ is .0)) $
         returns ! (look ! 25 refl) $ forget ! 4 refl $ forget ! 6 refl $ forget ! 8 refl $ forget ! 10 refl $ forget ! 13 refl $ forget ! 15 refl $ forget ! 17 refl $ forget ! 19 refl $ forget ! 21 refl $ forget ! 23 refl $ forget ! 25 refl $
         move ! (25 ∷ 26 ∷ []) $ free1 ! $ move ! (23 ∷ 24 ∷ []) $ free1 ! $ move ! (21 ∷ 22 ∷ []) $ free1 ! $ move ! (19 ∷ 20 ∷ []) $ free1 ! $ move ! (17 ∷ 18 ∷ []) $ free1 ! $ move ! (15 ∷ 16 ∷ []) $ free1 ! $ move ! (13 ∷ 14 ∷ []) $ free1 ! $ move ! (1 ∷ 12 ∷ []) $ free1 ! $
         move ! (9 ∷ 10 ∷ []) $ free1 ! $ move ! (7 ∷ 8 ∷ []) $ free1 ! $ move ! (5 ∷ 6 ∷ []) $ free1 ! $ move ! (3 ∷ 4 ∷ []) $ free1 ! $ free0 ! $
-        by ! (exits l₇ ν δ r u (zs .0) e)))))))))))))))))))
+        by ! (exits r u (zs .1 .1 .1 .1 .1 .0) (e (length-replicate {A = ℕ} 1024 0)) l))))))))))))))))
 
 module _ {M : Type 1} (𝓤 : URA M) (H : Heap 𝓤) (A : Atoms 𝓤) (W : Given 𝓤 H A) (mem : Memory → SProp 𝓤) (run : Routine → Fun 𝓤) where
-  own-walks : (C : Calls 𝓤 H) (Λ : Loops 𝓤 H) → FmC 𝓤 H (W .laws) C → Triple 𝓤 (C inner-def.name) (Inner 𝓤 H A mem run) → Walks 𝓤 H A own.ended stayed (WpFn 𝓤 H C Λ code.function) (own.clauses 𝓤 H A mem run)
-  own-walks C Λ fm known = walked 𝓤 H A own.ended stayed (own.clauses 𝓤 H A mem run) (WpFn 𝓤 H C Λ code.function) (λ κs. (LL.vals F.the-type F′.the-laws, (slice-vals, (slice-vals, (bool-vals, (uint-vals w64, (slice-vals, tt)))))))
-      (λ κs. (LL.tells F.the-type F′.the-laws, (shr-slice-tells (named 0) (κs .0) u64, (shr-slice-tells (named 1) (κs .1 .0) P.the-row, (bool-tells, (uint-tells w64, (mut-slice-tells (named 2) (κs .1 .1 .0) u64, tt)))))))
+  own-walks : (C : Calls 𝓤 H) (Λ : Loops 𝓤 H) → FmC 𝓤 H (W .laws) C → Triple 𝓤 (C inner-def.name) (Inner 𝓤 H A mem run) → Walks 𝓤 H A own.ended sided-stays (WpFn 𝓤 H C Λ code.function) (own.clauses 𝓤 H A mem run)
+  own-walks C Λ fm known = walked 𝓤 H A own.ended sided-stays (own.clauses 𝓤 H A mem run) (WpFn 𝓤 H C Λ code.function) sided-spelled sided-told
       (λ κs qs bounds a g are. via 𝓤 _ (fst∗ 𝓤 _ (emp 𝓤)) (walk 𝓤 H A W mem run κs qs a C Λ fm known are))
 
 own-meets : {M : Type 1} (𝓤 : URA M) (H : Heap 𝓤) (A : Atoms 𝓤) (W : Given 𝓤 H A) (mem : Memory → SProp 𝓤) (run : Routine → Fun 𝓤) (𝓣 : Tables 𝓤 H) → Triple 𝓤 (𝓣 .C inner-def.name) (Inner 𝓤 H A mem run)
     → Meets 𝓤 H A own.signature (WpFn 𝓤 H (𝓣 .C) (𝓣 .Λ) code.function) (own.spec 𝓤 H A mem run)
 own-meets 𝓤 H A W mem run 𝓣 known =
-    walk-meets 𝓤 H A own.ended stayed W
-    (goes-dropped 𝓤 H A W 3 (plain (λ _. F.the-row)) yes (λ κs x f. refl), (goes-dropped 𝓤 H A W 3 (shrSliceOf (0 ∷ []) tt (plain (λ _. u64))) yes (λ κs x f. refl), (goes-dropped 𝓤 H A W 3 (shrSliceOf (1 ∷ []) tt (plain (λ _. P.the-row))) yes (λ κs x f. refl), (goes-dropped 𝓤 H A W 3 (plain (λ _. bool)) yes (λ κs x f. refl), (goes-dropped 𝓤 H A W 3 (plain (λ _. usize)) yes (λ κs x f. refl), (goes-gave-slice 𝓤 H A W 3 2 tt (plain (λ _. u64)), tt))))))
-    (own.clauses 𝓤 H A mem run) (WpFn 𝓤 H (𝓣 .C) (𝓣 .Λ) code.function) (WpFn-mono 𝓤 H (W .laws) 𝓣 code.function) (own-walks 𝓤 H A W mem run (𝓣 .C) (𝓣 .Λ) (fmOf 𝓤 H (W .laws) 𝓣) known)
+    walk-meets 𝓤 H A own.ended sided-stays W (sided-goes 𝓤 H A W) (own.clauses 𝓤 H A mem run) (WpFn 𝓤 H (𝓣 .C) (𝓣 .Λ) code.function) (WpFn-mono 𝓤 H (W .laws) 𝓣 code.function) (own-walks 𝓤 H A W mem run (𝓣 .C) (𝓣 .Λ) (fmOf 𝓤 H (W .laws) 𝓣) known)
 
 pub renumber-sided-spec : {M : Type 1} → stated.statement M
 unfolding code.routine tablesOf

@@ -1,4 +1,4 @@
--- `renumberings::questions::shares` meets its contract: a walk of its MIR. The marks are lent to `clear_marks`, come back, and go to `pass` for good.
+-- `renumberings::questions::shares` meets its contract: a walk of its MIR. The marks are lent to `clear_marks`, come back, and go to `pass`.
 -- Assumes nothing.
 use mathlib.Core.Path.{_≡_, refl, _∙_, ap}
 use Prim.Native.Nat.{ℕ}
