@@ -12,7 +12,6 @@ pub mod PromiseLaws
 pub mod BackLaws
 pub mod PairLaws
 pub mod PassLaws
-pub mod LentWords
 pub mod Calling
 pub mod Forms
 pub mod Lending

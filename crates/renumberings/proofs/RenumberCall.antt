@@ -37,10 +37,10 @@ use Rattle.sets.proofs.answers.Edited.Laws as E′
 use Rattle.renumberings.specs.Rules.{renumberRule}
 use Rattle.renumberings.specs.declared.pair.Pair.{Pair}
 use Rattle.renumberings.proofs.Calling.{calls-met}
+use Rattle.renumberings.proofs.Forms.{clauses}
 use Rattle.renumberings.proofs.Lending.{Mut, Shr}
 use Rattle.renumberings.proofs.pair.Pair as P
-use Rattle.renumberings.proofs.moves.SideLaws.{clauses}
-use Rattle.renumberings.proofs.moves.renumber as renumber
+use Rattle.renumberings.proofs.renumber as renumber
 
 -- what is known of the callee, where the pairs are read by `side`
 module _ {M : Type 1} (𝓤 : URA M) (H : Heap 𝓤) (A : Atoms 𝓤) where

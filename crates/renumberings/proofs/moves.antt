@@ -1,3 +1,3 @@
 -- Laws of the functions that pass a list of pairs on.
-pub mod NumberLaws
-pub mod SideLaws
+mod NumberLaws
+mod SideLaws

@@ -28,7 +28,7 @@ use denote.RattleType.{owns}
 use denote.Laws.{Is, shows}
 use denote.Plain.{bool-vals, bool-tells, bool-makes, bool-lawful}
 use denote.Builtin.{u64, bool}
-use denote.Ref.{RefT, now}
+use denote.Ref.{RefT, now, at-last}
 use denote.Slice.{sliceTy, sliceVal, ShrSlice, MutSlice, Room, finally, slice-vals, shr-slice-tells, shr-slice-lawful, shr-slice-copy, mut-slice-tells, mut-slice-lawful}
 use denote.Index.{place-is}
 use denote.Signature.{plain}
@@ -49,7 +49,7 @@ use Rattle.renumberings.specs.declared.pair.Pair.{Pair}
 use Rattle.renumberings.specs.declared.steps.Task.{Task}
 use Rattle.renumberings.proofs.PassLaws.{passedFrom, passed-here, passed-next, passed-end}
 use Rattle.renumberings.proofs.PairLaws.{after, Nearer, Nearer-wf, pairsTy, bytes-fit, next-fits, lent, Pairs, nth-pair, looks-pair, shuts-pair}
-use Rattle.renumberings.proofs.LentWords.{under, Words, lends-words, words-back}
+use Rattle.renumberings.proofs.Lending.{Mut, under, lends-mut, mut-back}
 use Rattle.renumberings.proofs.pair.Pair as P
 use Rattle.renumberings.proofs.pair.Pair.Laws as P′
 use Rattle.renumberings.proofs.steps.Task as E
@@ -125,7 +125,7 @@ module _ {M : Type 1} (𝓤 : URA M) (H : Heap 𝓤) (A : Atoms 𝓤) (W : Given
 
   -- the lent slices and their tokens, where the words are ws
   abbrev Slices : List ℕ → List (Item 𝓤) → List (Item 𝓤)
-  Slices ws Γ = ‵ (flft κ q) ∷ ‵ (Pairs κ s) ∷ ‵ (flft κ₁ q₁) ∷ ‵ Olds ∷ ‵ (flft κ₂ q₂) ∷ ‵ (Words κ₂ (under x (x .name) ws) vx) ∷ Γ
+  Slices ws Γ = ‵ (flft κ q) ∷ ‵ (Pairs κ s) ∷ ‵ (flft κ₁ q₁) ∷ ‵ Olds ∷ ‵ (flft κ₂ q₂) ∷ ‵ (Mut κ₂ (at-last x ws) vx) ∷ Γ
 
   exits : (r : Bool) (ws : List ℕ) → length ws ≡ length (x .now) → record { found = r; words = ws } ≡ from-on 0 (x .now) → ent 𝓤 (⋆ 𝓤 H A (Slices ws [])) (Post (vbool r))
   exits r ws l e =
@@ -140,7 +140,7 @@ module _ {M : Type 1} (𝓤 : URA M) (H : Heap 𝓤) (A : Atoms 𝓤) (W : Given
   -- the call, on a pair p and the words ws, lent on for ν under δ
   module _ (p : Pair) (ws : List ℕ) (ν : ℕ) (δ : GName) where
     abbrev taking : Args callee.signature (κ₁, (ν ∷ [], tt))
-    taking = (task, (p, (back, (os, (under x δ ws, tt)))))
+    taking = (task, (p, (back, (os, (under δ (at-last x ws), tt)))))
 
     abbrev took : Vals callee.signature (κ₁, (ν ∷ [], tt))
     took = (ve ∷ [], (P′.lowered p ∷ [], (vbool back ∷ [], (vo ∷ [], (vx ∷ [], tt)))))
@@ -149,9 +149,9 @@ module _ {M : Type 1} (𝓤 : URA M) (H : Heap 𝓤) (A : Atoms 𝓤) (W : Given
     to = (((κ₁, (ν ∷ [], tt)), (q₁, (fullShare, tt)), tt, taking, took), tt)
 
     goes : Is P.the-row p (P′.lowered p ∷ [])
-        → ent 𝓤 (⋆ 𝓤 H A ((‵ (flft κ₁ q₁) ⊛ ‵ (flft (ν ∷ []) fullShare) ⊛ ‵ ftrue) ∷ ‵ Olds ∷ ‵ (Words (ν ∷ []) (under x δ ws) vx) ∷ [])) (sep 𝓤 (Take 𝓤 H A mem run .pre to) (sem 𝓤 H A Olds))
+        → ent 𝓤 (⋆ 𝓤 H A ((‵ (flft κ₁ q₁) ⊛ ‵ (flft (ν ∷ []) fullShare) ⊛ ‵ ftrue) ∷ ‵ Olds ∷ ‵ (Mut (ν ∷ []) (under δ (at-last x ws)) vx) ∷ [])) (sep 𝓤 (Take 𝓤 H A mem run .pre to) (sem 𝓤 H A Olds))
     goes is =
-        qed W ((‵ (flft κ₁ q₁) ⊛ ‵ (flft (ν ∷ []) fullShare) ⊛ ‵ ftrue) ∷ ‵ Olds ∷ ‵ (Words (ν ∷ []) (under x δ ws) vx) ∷ []) ∵ move ! (1 ∷ []) $
+        qed W ((‵ (flft κ₁ q₁) ⊛ ‵ (flft (ν ∷ []) fullShare) ⊛ ‵ ftrue) ∷ ‵ Olds ∷ ‵ (Mut (ν ∷ []) (under δ (at-last x ws)) vx) ∷ []) ∵ move ! (1 ∷ []) $
         use1 W (‵ Olds ⊛ ‵ Olds) (shr-slice-copy 𝓤 H A W (named 1) κ₁ u64 .twice os (vo ∷ [])) $ split ! $
         -- [the old words; the old words; the tokens; the words]
         nothing ! $ move ! (4 ∷ 0 ∷ []) $ fjoin ! $ move ! (1 ∷ 0 ∷ []) $ fjoin ! $ owned ! bool (Is bool) (bool-makes 𝓤 H A W) back (vbool back ∷ []) refl $ fjoin ! $
@@ -226,7 +226,7 @@ module _ {M : Type 1} (𝓤 : URA M) (H : Heap 𝓤) (A : Atoms 𝓤) (W : Given
         shuts-pair ! tt s (i .0) (within less) q′ $
         assigns ! (addr ! (from ! (fld ! refl (hop ! (look-in ! 22 (sub ! 0 refl (whole !))) (stop !))))) (from ! (stop !)) (init ! 8 refl (tt, tt)) $
         assigns ! (agg ! (and-then ! (load ! (from ! (stop !)) (look ! 8 refl)) (and-then ! (load ! (from ! (fld ! refl (stop !))) (look-in ! 22 (sub ! 1 refl (whole !)))) (no-more !)))) (from ! (stop !)) (init ! 6 refl (tt, (tt, (record { fits = is-x .0 .1 .0 }, tt)))) $
-        move ! (5 ∷ 4 ∷ []) $ lends-words ! tt (under x (x .name) (i .1)) vx (λ ν δ.
+        move ! (5 ∷ 4 ∷ []) $ lends-mut ! tt (at-last x (i .1)) vx (λ ν δ.
         -- [the call's token; the words lent on; what is kept; the pairs' token; the pairs; the old words' token; the old words; _13; ..]
         nothing ! $ move ! (1 ∷ 0 ∷ []) $ join ! $ move ! (5 ∷ 0 ∷ []) $ join ! $ move ! (0 ∷ 5 ∷ 1 ∷ []) $ use3 W (raw (Take 𝓤 H A mem run .pre (to p (i .1) ν δ)) ⊛ ‵ Olds) (goes p (i .1) ν δ is) $ split ! $
         calls-at ! (fmOf 𝓤 H (W .laws) 𝓣) (Take 𝓤 H A mem run) known (to p (i .1) ν δ) (and-then ! (load ! (from ! (stop !)) (look ! 25 refl)) (and-then ! (load ! (from ! (stop !)) (look ! 9 refl)) (and-then ! (load ! (from ! (stop !)) (look ! 27 refl)) (and-then ! (load ! (from ! (stop !)) (look ! 23 refl)) (and-then ! (load ! (from ! (stop !)) (look ! 5 refl)) (no-more !)))))) (λ u.
@@ -234,7 +234,7 @@ module _ {M : Type 1} (𝓤 : URA M) (H : Heap 𝓤) (A : Atoms 𝓤) (W : Given
         split ! $ move ! (1 ∷ []) $ use1 W (some (λ (zs : List ℕ). given (Said p (i .1) ν δ r zs) (‵ (finally u64 δ zs)))) (said p (i .1) ν δ r) $ pick ! (λ zs. learn ! (λ e.
         move ! (1 ∷ []) $ split ! $ move ! (1 ∷ []) $ facts ! bool (Is bool) (shows 𝓤 H A bool) r (u ∷ []) (λ is′. split ! $ move ! (1 ∷ []) $ split ! $
         -- [the call's token; true; the old words' token; the last list; the old words; what was kept; the pairs' token; the pairs; _13; ..]
-        move ! (0 ∷ 3 ∷ 5 ∷ []) $ words-back ! tt (under x (x .name) (i .1)) vx ν δ zs (e .1) $ move ! (2 ∷ []) $ drop ! $ move ! (4 ∷ 5 ∷ 2 ∷ 3 ∷ 1 ∷ 0 ∷ []) $
+        move ! (0 ∷ 5 ∷ 3 ∷ []) $ mut-back ! tt (at-last x (i .1)) vx zs (e .1) $ move ! (2 ∷ []) $ drop ! $ move ! (4 ∷ 5 ∷ 2 ∷ 3 ∷ 1 ∷ 0 ∷ []) $
         land ! (from ! (stop !)) (init ! 14 refl (bool-lawful 𝓤 H A W .typed r _ is′ .0)) $
         rewrite ! 14 (λ (v : Val). ‵ (fat fullShare tyBool l₉ 0 v)) (ap only (bool-tells r (u ∷ []) is′)) refl $
         first ! $ branches ! (load ! (from ! (stop !)) (look ! 14 refl))
