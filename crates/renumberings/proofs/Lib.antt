@@ -13,6 +13,7 @@ pub mod BackLaws
 pub mod PairLaws
 pub mod PassLaws
 pub mod Calling
+pub mod BackForms
 pub mod Forms
 pub mod Lending
 pub mod PassCall

@@ -1,4 +1,4 @@
--- A call of `renumber` or `renumber_back`, as a step of a walk: the buffer goes to it for good at its own lifetime and name, and what it says of the last words is had after the call.
+-- A call of `renumber` or `renumber_back`, as a step of a walk: the buffer goes to it at its own lifetime and name, and what it says of the last words is had after the call.
 -- Assumes `Given`.
 use mathlib.Core.Path.{_≡_, refl, sym, ap, subst}
 use Prim.Native.Nat.{ℕ}

@@ -26,11 +26,11 @@ use types.Run.{look, init, forget, stop, hop, fld, from, load, addr, lit, bin, o
 use sound.WpLaws.{FmC, fmOf, WpFn-mono}
 use denote.RattleType.{owns, flat}
 use denote.Laws.{Is, Are, Ises}
-use denote.Plain.{uint-vals, uint-tells, uint-lawful, uint-makes}
+use denote.Plain.{uint-vals, uint-lawful, uint-makes}
 use denote.Builtin.{u64, usize}
 use denote.Ref.{RefT, now, name, at-last}
-use denote.Signature.{typesAt, plain, shrSliceOf}
-use denote.Slice.{sliceVal, MutSlice, ShrSlice, finally, slice-vals, mut-slice-tells, shr-slice-tells, mut-slice-lawful, shr-slice-lawful, shr-slice-copy}
+use denote.Signature.{typesAt}
+use denote.Slice.{sliceVal, MutSlice, ShrSlice, finally, slice-vals, mut-slice-lawful, shr-slice-lawful, shr-slice-copy}
 use denote.Steps.{owned, nothing}
 use denote.Struct.Laws as LL
 use denote.Triple.Statement.{Triple}
@@ -38,8 +38,7 @@ use denote.Triple.Bound.{Bound}
 use denote.Triple.Entry.{Args, Vals, onEntry}
 use denote.Triple.Spec.{Meets, tripleOf}
 use denote.Triple.Table.{entered, cited}
-use denote.Triple.Walked.{says, Stays, stay-dropped, gave-slice, walkOf, goes-dropped, goes-gave-slice, Walks, ends-at, walked, walk-meets}
-use denote.Exit.{yes}
+use denote.Triple.Walked.{says, walkOf, Walks, ends-at, walked, walk-meets}
 use Rattle.sets.specs.Outcomes.{Outcome, outcome}
 use Rattle.sets.specs.declared.fixed_bit_set.FixedBitSet.{FixedBitSet}
 use Rattle.sets.specs.declared.answers.Edited.{Edited}
@@ -54,6 +53,7 @@ use Rattle.renumberings.specs.Pairs.{swapped}
 use Rattle.renumberings.specs.Rules.{renumberRule}
 use Rattle.renumberings.specs.Promises.{cameBack, wayBack, AndBack}
 use Rattle.renumberings.specs.declared.pair.Pair.{Pair}
+use Rattle.renumberings.proofs.BackForms.{stays, spelled, told, goes}
 use Rattle.renumberings.proofs.BackLaws.{and-back-no, and-back-yes}
 use Rattle.renumberings.proofs.Calling.{local, calls-met, if-returns}
 use Rattle.renumberings.proofs.Lending.{Mut, Shr, under, lends-mut, mut-back, lends-shr, shr-back, let-go}
@@ -86,9 +86,6 @@ module _ (set : FixedBitSet) (ws : List ℕ) (ps : List Pair) (n : ℕ) (vs us :
       (subst (λ (os : List ℕ). AndBack set ws ps n vs us r (renumberRule set ws ps n vs .words) os) (sym (ap (λ (o : Outcome). o .words) way))
       (and-back-yes set ws ps n vs us (sym (ap (λ (o : Outcome). o .number) e) ∙ z) (is ∙ ap (cameBack set ws) way)))
 
-abbrev stayed : Stays (own.ended .signature .params) (own.ended .kept)
-stayed = (stay-dropped (plain (λ _. F.the-row)) yes, (stay-dropped (shrSliceOf (0 ∷ []) tt (plain (λ _. u64))) yes, (stay-dropped (shrSliceOf (1 ∷ []) tt (plain (λ _. P.the-row))) yes, (stay-dropped (plain (λ _. usize)) yes, (gave-slice (2 ∷ []) tt (plain (λ _. u64)), (gave-slice (3 ∷ []) tt (plain (λ _. u64)), tt))))))
-
 -- what is known of the callees
 module _ {M : Type 1} (𝓤 : URA M) (H : Heap 𝓤) (A : Atoms 𝓤) (mem : Memory → SProp 𝓤) (run : Routine → Fun 𝓤) (C : Calls 𝓤 H) where
   abbrev Known : Type 1
@@ -113,7 +110,7 @@ module _ {M : Type 1} (𝓤 : URA M) (H : Heap 𝓤) (A : Atoms 𝓤) (W : Given
   at = (F′.lowered (a .0) ∷ [], (slice-vals (a .1 .0), (slice-vals (a .1 .1 .0), (uint-vals w64 (a .1 .1 .1 .0), (slice-vals x, (slice-vals y, tt))))))
 
   abbrev Post : Val → SProp 𝓤
-  Post = walkOf 𝓤 H A own.ended stayed (own.clauses 𝓤 H A mem run) .post ((κs, qs, tt, a, at), tt)
+  Post = walkOf 𝓤 H A own.ended stays (own.clauses 𝓤 H A mem run) .post ((κs, qs, tt, a, at), tt)
 
   abbrev Own : Fml
   Own = owns (F.the-row ∷ ShrSlice (named 0) (κs .0) u64 ∷ ShrSlice (named 1) (κs .1 .0) P.the-row ∷ usize ∷ MutSlice (named 2) (κs .1 .1 .0) u64 ∷ MutSlice (named 3) (κs .1 .1 .1 .0) u64 ∷ []) a at
@@ -156,7 +153,7 @@ module _ {M : Type 1} (𝓤 : URA M) (H : Heap 𝓤) (A : Atoms 𝓤) (W : Given
     exits e l l′ =
         qed W Left ∵ move ! (5 ∷ []) $ use1 W (‵ (finally u64 (name x) zs)) (let-go 𝓤 H A W (κs .1 .1 .0) (at-last x zs) v) $ move ! (6 ∷ []) $ use1 W (‵ (finally u64 (name y) ys)) (let-go 𝓤 H A W (κs .1 .1 .1 .0) (at-last y ys) w) $
         -- [the last words of both; the result; the tokens]
-        suffices ! _ (ends-at 𝓤 H A own.ended stayed (own.clauses 𝓤 H A mem run) W ((κs, qs, tt, a, at), tt) u r (tt, (tt, (tt, (tt, (zs, (ys, tt)))))) (tt, (tt, (tt, (tt, (l, (l′, tt))))))) $ says ! e $
+        suffices ! _ (ends-at 𝓤 H A own.ended stays (own.clauses 𝓤 H A mem run) W ((κs, qs, tt, a, at), tt) u r (tt, (tt, (tt, (tt, (zs, (ys, tt)))))) (tt, (tt, (tt, (tt, (l, (l′, tt))))))) $ says ! e $
         nothing ! $ move ! (7 ∷ 0 ∷ []) $ join ! $ move ! (6 ∷ 0 ∷ []) $ join ! $ move ! (5 ∷ 0 ∷ []) $ join ! $ move ! (4 ∷ 0 ∷ []) $ join ! $ frame ! $
         nothing ! $ move ! (1 ∷ 0 ∷ []) $ fjoin ! $ move ! (1 ∷ 0 ∷ []) $ fjoin ! $ nothing ! $ fjoin ! $ nothing ! $ fjoin ! $ nothing ! $ fjoin ! $ nothing ! $ fjoin ! $ frame ! $ done !
 
@@ -220,17 +217,14 @@ module _ {M : Type 1} (𝓤 : URA M) (H : Heap 𝓤) (A : Atoms 𝓤) (W : Given
         keep ! (4 ∷ 3 ∷ 8 ∷ 7 ∷ 1 ∷ 6 ∷ 0 ∷ []) $ by ! (exits r u zs ys (said-yes (a .0) (now (a .1 .0)) (now (a .1 .1 .0)) (a .1 .1 .1 .0) (now x) (now y) moved zs r e₁ back ys (eqb-yes {a = moved .number} {b = 0} (T-not-not (eqb (moved .number) 0) ok)) e₂ e₃) l₁′ l₂′))))))))))))))))))))))))))))
 
 module _ {M : Type 1} (𝓤 : URA M) (H : Heap 𝓤) (A : Atoms 𝓤) (W : Given 𝓤 H A) (mem : Memory → SProp 𝓤) (run : Routine → Fun 𝓤) where
-  own-walks : (C : Calls 𝓤 H) (Λ : Loops 𝓤 H) → FmC 𝓤 H (W .laws) C → Known 𝓤 H A mem run C → Walks 𝓤 H A own.ended stayed (WpFn 𝓤 H C Λ code.function) (own.clauses 𝓤 H A mem run)
-  own-walks C Λ fm known = walked 𝓤 H A own.ended stayed (own.clauses 𝓤 H A mem run) (WpFn 𝓤 H C Λ code.function) (λ κs. (LL.vals F.the-type F′.the-laws, (slice-vals, (slice-vals, (uint-vals w64, (slice-vals, (slice-vals, tt)))))))
-      (λ κs. (LL.tells F.the-type F′.the-laws, (shr-slice-tells (named 0) (κs .0) u64, (shr-slice-tells (named 1) (κs .1 .0) P.the-row, (uint-tells w64, (mut-slice-tells (named 2) (κs .1 .1 .0) u64, (mut-slice-tells (named 3) (κs .1 .1 .1 .0) u64, tt)))))))
+  own-walks : (C : Calls 𝓤 H) (Λ : Loops 𝓤 H) → FmC 𝓤 H (W .laws) C → Known 𝓤 H A mem run C → Walks 𝓤 H A own.ended stays (WpFn 𝓤 H C Λ code.function) (own.clauses 𝓤 H A mem run)
+  own-walks C Λ fm known = walked 𝓤 H A own.ended stays (own.clauses 𝓤 H A mem run) (WpFn 𝓤 H C Λ code.function) spelled told
       (λ κs qs bounds a g are. via 𝓤 _ (fst∗ 𝓤 _ (emp 𝓤)) (walk 𝓤 H A W mem run κs qs a C Λ fm known are))
 
 own-meets : {M : Type 1} (𝓤 : URA M) (H : Heap 𝓤) (A : Atoms 𝓤) (W : Given 𝓤 H A) (mem : Memory → SProp 𝓤) (run : Routine → Fun 𝓤) (𝓣 : Tables 𝓤 H) → Known 𝓤 H A mem run (𝓣 .C)
     → Meets 𝓤 H A own.signature (WpFn 𝓤 H (𝓣 .C) (𝓣 .Λ) code.function) (own.spec 𝓤 H A mem run)
 own-meets 𝓤 H A W mem run 𝓣 known =
-    walk-meets 𝓤 H A own.ended stayed W
-    (goes-dropped 𝓤 H A W 4 (plain (λ _. F.the-row)) yes (λ κs x f. refl), (goes-dropped 𝓤 H A W 4 (shrSliceOf (0 ∷ []) tt (plain (λ _. u64))) yes (λ κs x f. refl), (goes-dropped 𝓤 H A W 4 (shrSliceOf (1 ∷ []) tt (plain (λ _. P.the-row))) yes (λ κs x f. refl), (goes-dropped 𝓤 H A W 4 (plain (λ _. usize)) yes (λ κs x f. refl), (goes-gave-slice 𝓤 H A W 4 2 tt (plain (λ _. u64)), (goes-gave-slice 𝓤 H A W 4 3 tt (plain (λ _. u64)), tt))))))
-    (own.clauses 𝓤 H A mem run) (WpFn 𝓤 H (𝓣 .C) (𝓣 .Λ) code.function) (WpFn-mono 𝓤 H (W .laws) 𝓣 code.function) (own-walks 𝓤 H A W mem run (𝓣 .C) (𝓣 .Λ) (fmOf 𝓤 H (W .laws) 𝓣) known)
+    walk-meets 𝓤 H A own.ended stays W (goes 𝓤 H A W) (own.clauses 𝓤 H A mem run) (WpFn 𝓤 H (𝓣 .C) (𝓣 .Λ) code.function) (WpFn-mono 𝓤 H (W .laws) 𝓣 code.function) (own-walks 𝓤 H A W mem run (𝓣 .C) (𝓣 .Λ) (fmOf 𝓤 H (W .laws) 𝓣) known)
 
 pub renumber-and-back-spec : {M : Type 1} → stated.statement M
 unfolding code.routine tablesOf
