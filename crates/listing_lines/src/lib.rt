@@ -9,3 +9,4 @@ pub use last_lines::append_tables;
 pub use last_lines::append_verdict;
 pub use lines::Listing;
 pub use lines::append_lines;
+pub use lines::append_place;
