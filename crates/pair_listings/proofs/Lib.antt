@@ -1,0 +1,5 @@
+pub mod Examples
+pub mod MoveLaws
+pub mod UnpairedLaws
+pub mod LineLaws
+pub mod LengthLaws

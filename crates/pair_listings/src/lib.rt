@@ -1,0 +1,13 @@
+// What the tool makes of a set and a table of pairs, and what it writes of them, piece by piece into a lent buffer.
+mod jobs;
+mod moves;
+mod unpaired;
+
+pub use jobs::Job;
+pub use jobs::Page;
+pub use jobs::Piece;
+pub use jobs::Stage;
+pub use moves::move_members;
+pub use moves::named_set;
+pub use unpaired::count_unpaired;
+pub use unpaired::first_unpaired;
