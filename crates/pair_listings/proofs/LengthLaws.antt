@@ -1,5 +1,5 @@
 -- How long lines of pairs are. Assumes nothing.
-use mathlib.Core.Bool.{Bool, true, false, cond, false}
+use mathlib.Core.Bool.{Bool, true, false, cond}
 use mathlib.Core.List.{List, [], _∷_}
 use Prim.Native.Nat.{ℕ, _+_, _*_, _≤_}
 use native.Mathlib.Omega.{arith}

@@ -3,7 +3,7 @@ use mathlib.Core.Path.{_≡_, refl, sym, ap, ap₂, _∙_}
 use mathlib.Core.Bool.{Bool, true, false, not}
 use mathlib.Core.List.{List}
 use mathlib.Core.Logic.{_⊎_, inl, inr}
-use Prim.Native.Nat.{ℕ, suc, _+_, _≤_, _<_}
+use Prim.Native.Nat.{ℕ, _+_, _≤_, _<_}
 use native.Mathlib.Numerals.{add-one}
 use native.Mathlib.Omega.{arith}
 use lib.Dec.{eqb}
@@ -11,8 +11,6 @@ use Rattle.word_bits.specs.Counts.{count}
 use Rattle.word_bits.specs.Digits.{one}
 use Rattle.word_bits.proofs.Order.{lt-or-le}
 use Rattle.sets.specs.Members.{read}
-use Rattle.sets.specs.declared.answers.Part.{Part}
-use Rattle.sets.specs.declared.answers.Position.{Position}
 use Rattle.sets.specs.declared.answers.Position.the-variants.{At, Nothing}
 use Rattle.parts.specs.declared.records.Step.{Step}
 use Rattle.parts.proofs.PartLaws.{front-at, front-none}

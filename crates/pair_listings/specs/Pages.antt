@@ -1,5 +1,5 @@
 -- What is written of a set and a table of pairs; and what is left of it on the way.
-use mathlib.Core.Bool.{Bool, cond}
+use mathlib.Core.Bool.{cond}
 use mathlib.Core.List.{List, [], _++_}
 use Prim.Native.Nat.{ℕ}
 use lib.ListN.{length}

@@ -8,7 +8,7 @@ use denote.Ref.{now}
 use lib.ListN.{length}
 use Rattle.sets.specs.Members.{wordsOf, write, empty}
 use Rattle.pair_listings.specs.Tables.{entryOf, namedBelow}
-use Rattle.pair_listings.proofs.MoveLaws.{named-start}
+use Rattle.pair_listings.proofs.NamedLaws.{named-start}
 use Rattle.pair_listings.proofs.moves.mark_each.Statement.{statement}
 use Rattle.pair_listings.proofs.moves.mark_each.Tie as tie
 

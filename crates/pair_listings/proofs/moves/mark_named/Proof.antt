@@ -4,7 +4,7 @@ use mathlib.Core.Path.{sym, ap, _∙_}
 use denote.Ref.{now}
 use Rattle.sets.specs.declared.fixed_bit_set.FixedBitSet.{FixedBitSet}
 use Rattle.edits.specs.Rules.{insertRule}
-use Rattle.pair_listings.proofs.MoveLaws.{named-more, named-skip}
+use Rattle.pair_listings.proofs.NamedLaws.{named-more, named-skip}
 use Rattle.pair_listings.proofs.moves.mark_named.Statement.{statement}
 use Rattle.pair_listings.proofs.moves.mark_named.Tie as tie
 

@@ -5,7 +5,8 @@ use denote.Ref.{now}
 use Rattle.sets.specs.Questions.{questions}
 use Rattle.sets.specs.declared.fixed_bit_set.FixedBitSet.{FixedBitSet}
 use Rattle.pair_listings.specs.Tables.{allOffsets, offsetsOf, entryOf, movedBelow, movedBy}
-use Rattle.pair_listings.proofs.MoveLaws.{made-no, made-yes, moved-refused, moved-rule}
+use Rattle.pair_listings.proofs.SetLaws.{made-no, made-yes}
+use Rattle.pair_listings.proofs.MoveLaws.{moved-refused, moved-rule}
 use Rattle.pair_listings.proofs.moves.move_members.Statement.{statement}
 use Rattle.pair_listings.proofs.moves.move_members.Tie as tie
 

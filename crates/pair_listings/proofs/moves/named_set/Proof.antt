@@ -2,7 +2,7 @@
 use borrow.Author.Needs.{needs}
 use denote.Ref.{now}
 use Rattle.pair_listings.specs.Tables.{entryOf, namedBelow, namedBy}
-use Rattle.pair_listings.proofs.MoveLaws.{made-no, made-yes}
+use Rattle.pair_listings.proofs.SetLaws.{made-no, made-yes}
 use Rattle.pair_listings.proofs.moves.named_set.Statement.{statement}
 use Rattle.pair_listings.proofs.moves.named_set.Tie as tie
 
