@@ -15,7 +15,8 @@ use Rattle.offset_lines.specs.Lines.{lineOf}
 use Rattle.offset_lines.specs.declared.entry.Entry.{Entry}
 use Rattle.offset_lines.specs.declared.entry.Entry.the-variants.{Blank, Offset, Says, NotANumber, TooLarge, CarriageReturn, TooLong, Damaged}
 use Rattle.offset_lines.proofs.LineLaws.{offset-below}
-use Rattle.offset_files.specs.Files.{File, noLines, more, entryLine, fileOf}
+use Rattle.text_lines.specs.Texts.{more}
+use Rattle.offset_files.specs.Files.{File, noLines, entryLine, fileOf}
 use Rattle.offset_file_laws.specs.Entries.{linesOf, bodiesOf, isOffset}
 use Rattle.offset_file_laws.proofs.StepLaws.{more-some, entry-first}
 use Rattle.offset_file_laws.proofs.GoodLaws.{never, offset-named, other-named}

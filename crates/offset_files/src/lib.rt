@@ -2,7 +2,6 @@
 mod entries;
 mod lines;
 mod messages;
-mod numbers;
 mod reading;
 mod reads;
 

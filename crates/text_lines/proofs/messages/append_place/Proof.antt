@@ -1,9 +1,9 @@
--- `offset_files::append_place` meets its contract. Assumes nothing.
+-- `text_lines::append_place` meets its contract. Assumes nothing.
 use Rattle.byte_texts.specs.Ascii.{ascii}
 use Rattle.byte_texts.proofs.TextLaws.{written-then}
 use borrow.Author.Needs.{needs}
-use Rattle.offset_files.proofs.messages.append_place.Statement.{statement}
-use Rattle.offset_files.proofs.messages.append_place.Tie as tie
+use Rattle.text_lines.proofs.messages.append_place.Statement.{statement}
+use Rattle.text_lines.proofs.messages.append_place.Tie as tie
 
 returns : tie.Need-returns
 unfolding ascii

@@ -1,12 +1,12 @@
--- `offset_files::starts_with_mark` meets its contract. Assumes nothing.
+-- `text_lines::starts_with_mark` meets its contract. Assumes nothing.
 use mathlib.Core.Path.{refl, sym}
 use borrow.Author.Tests.{eq-eqb, ne-eqb}
 use denote.Ref.{now}
 use lib.ListN.{getD}
-use Rattle.offset_files.proofs.CutLaws.{mark-short, mark-at, mark-last}
+use Rattle.text_lines.proofs.BodyLaws.{mark-short, mark-at, mark-last}
 use borrow.Author.Needs.{needs}
-use Rattle.offset_files.proofs.lines.starts_with_mark.Statement.{statement}
-use Rattle.offset_files.proofs.lines.starts_with_mark.Tie as tie
+use Rattle.text_lines.proofs.bytes.starts_with_mark.Statement.{statement}
+use Rattle.text_lines.proofs.bytes.starts_with_mark.Tie as tie
 
 returns : tie.Need-returns
 returns c = mark-short _ (c .if1 .taken)

@@ -1,9 +1,9 @@
--- `offset_files::more` meets its contract. Assumes nothing.
+-- `text_lines::more` meets its contract. Assumes nothing.
 use native.Mathlib.Omega.{arith}
-use Rattle.offset_files.specs.Files.{more}
+use Rattle.text_lines.specs.Texts.{more}
 use borrow.Author.Needs.{needs}
-use Rattle.offset_files.proofs.numbers.more.Statement.{statement}
-use Rattle.offset_files.proofs.numbers.more.Tie as tie
+use Rattle.text_lines.proofs.numbers.more.Statement.{statement}
+use Rattle.text_lines.proofs.numbers.more.Tie as tie
 
 returns : tie.Need-returns
 unfolding more

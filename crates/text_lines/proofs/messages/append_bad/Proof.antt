@@ -1,12 +1,12 @@
--- `offset_files::append_bad` meets its contract. Assumes nothing.
+-- `text_lines::append_bad` meets its contract. Assumes nothing.
 use mathlib.Core.Path.{ap, _∙_}
 use Rattle.byte_texts.specs.Ascii.{ascii}
 use Rattle.byte_texts.specs.Texts.{written}
 use Rattle.byte_texts.proofs.TextLaws.{written-then}
-use Rattle.offset_files.proofs.MessageLaws.{bad-parts}
+use Rattle.text_lines.proofs.MessageLaws.{bad-parts}
 use borrow.Author.Needs.{needs}
-use Rattle.offset_files.proofs.messages.append_bad.Statement.{statement}
-use Rattle.offset_files.proofs.messages.append_bad.Tie as tie
+use Rattle.text_lines.proofs.messages.append_bad.Statement.{statement}
+use Rattle.text_lines.proofs.messages.append_bad.Tie as tie
 
 returns : tie.Need-returns
 unfolding ascii

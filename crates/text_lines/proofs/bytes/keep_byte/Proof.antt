@@ -1,9 +1,9 @@
--- `offset_files::keep_byte` meets its contract. Assumes nothing.
+-- `text_lines::keep_byte` meets its contract. Assumes nothing.
 use native.Mathlib.Omega.{arith}
-use Rattle.offset_files.proofs.TextLaws.{byte-stored, byte-passed}
+use Rattle.text_lines.proofs.RestLaws.{byte-stored, byte-passed}
 use borrow.Author.Needs.{needs}
-use Rattle.offset_files.proofs.reads.keep_byte.Statement.{statement}
-use Rattle.offset_files.proofs.reads.keep_byte.Tie as tie
+use Rattle.text_lines.proofs.bytes.keep_byte.Statement.{statement}
+use Rattle.text_lines.proofs.bytes.keep_byte.Tie as tie
 
 returns : tie.Need-returns
 returns c = λ rest h. byte-stored rest h _ (c .before .if1 .taken)

@@ -1,9 +1,9 @@
--- `offset_files::append_body` meets its contract. Assumes nothing.
+-- `text_lines::append_body` meets its contract. Assumes nothing.
 use Rattle.byte_texts.specs.Ascii.{ascii}
 use Rattle.byte_texts.proofs.TextLaws.{written-then}
 use borrow.Author.Needs.{needs}
-use Rattle.offset_files.proofs.messages.append_body.Statement.{statement}
-use Rattle.offset_files.proofs.messages.append_body.Tie as tie
+use Rattle.text_lines.proofs.messages.append_body.Statement.{statement}
+use Rattle.text_lines.proofs.messages.append_body.Tie as tie
 
 returns : tie.Need-returns
 unfolding ascii
