@@ -23,7 +23,7 @@ use Rattle.offset_file_laws.proofs.GoodLaws.{never, offset-named, other
 use Rattle.offset_file_laws.proofs.FoldLaws.{entered, file-is}
 
 -- one place more
-count-more : (n : ℕ) (f g : ℕ → Bool) (q : ℕ) → q < n → f q ≡ false → g q ≡ true → ((p : ℕ) → (p ≡ q → ⊥) → f p ≡ g p) → count n g ≡ count n f + 1
+pub count-more : (n : ℕ) (f g : ℕ → Bool) (q : ℕ) → q < n → f q ≡ false → g q ≡ true → ((p : ℕ) → (p ≡ q → ⊥) → f p ≡ g p) → count n g ≡ count n f + 1
 unfolding count
 count-more zero f g q l a b same = absurd (omega arith)
 count-more (suc n) f g q l a b same = go (lt-or-le q n) (count-more n f g q)

@@ -1,0 +1,4 @@
+pub mod ListLaws
+pub mod SideLaws
+pub mod KeepLaws
+pub mod GoodLaws
