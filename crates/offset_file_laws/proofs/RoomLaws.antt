@@ -39,7 +39,7 @@ module _ (name : List ℕ) where
   abbrev pub room : ℕ
   room = length name + 146
 
-  bad-short : (k : ℕ) (reason body : List ℕ) → length reason ≤ 64 → length (badText name k reason body) ≤ room
+  pub bad-short : (k : ℕ) (reason body : List ℕ) → length reason ≤ 64 → length (badText name k reason body) ≤ room
   unfolding badText ascii
   bad-short k reason body h = simp length-append (omega (arith, decimal-short 20 k, shown-short body))
 
