@@ -13,12 +13,17 @@ use Rattle.pair_files.proofs.entries.bad_line.Tie as tie
 
 returns : tie.Need-returns
 returns c =
+    let at-append-bad = c .before .before in
+    let at-if1 = at-append-bad .before .before in
+    let at-more2 = at-if1 .before .before in
+    let at-more = at-more2 .before in
+    let start = at-more .before .before .before .before .before in
     λ f full to from e h.
-    let a = c .before .before .before .before .before .before .before .before .before .before .before .before .args in
-    let line = c .before .before .before .before .before .before .before .more .ensures in
-    line-bad h _ full _ _ _ _ _ line (c .before .before .before .before .before .before .more2 .ensures)
-    (bad-said h _ (c .before .before .before .before .if1 .taken)
-    (c .before .before .append-bad .ensures ∙ ap (written (now (a .report)) (a .reading .report))
+    let a = start .args in
+    let line = at-more .more .ensures in
+    line-bad h _ full _ _ _ _ _ line (at-more2 .more2 .ensures)
+    (bad-said h _ (at-if1 .if1 .taken)
+    (at-append-bad .append-bad .ensures ∙ ap (written (now (a .report)) (a .reading .report))
     (bad-shown (now (a .name)) _ (now (a .reason)) (now (a .body)) full e ∙ ap (λ (k : ℕ). badText (now (a .name)) k (now (a .reason)) full) (line ∙ ap more (h .lines)))))
 
 returns-2 : tie.Need-returns-2

@@ -20,11 +20,14 @@ slice-aggregate-bad-line c = sym (length-take-le _ _ (count-end _ _ _ refl (c .b
 
 returns : tie.Need-returns
 returns c =
+    let at-bad-line = c .before .before in
+    let at-append-wrong-count = at-bad-line .before .before .before .before in
+    let start = at-append-wrong-count .before .before .before .before .before in
     λ f full to from e h.
-    let a = c .before .before .before .before .before .before .before .before .before .before .before .args in
-    subst (λ (reason : List ℕ). HoldsPairs (badLine (now (a .name)) full reason f) (c .before .before .bad-line .result) to from (c .before .before .bad-line .last .1 .1 .1 .1 .0))
-    (count-whole _ _ _ refl (c .before .before .before .before .before .before .append-wrong-count .ensures) ∙ ap (wrongCount (a .says)) (h .pairs))
-    (c .before .before .bad-line .ensures f full to from e h)
+    let a = start .args in
+    subst (λ (reason : List ℕ). HoldsPairs (badLine (now (a .name)) full reason f) (at-bad-line .bad-line .result) to from (at-bad-line .bad-line .last .1 .1 .1 .1 .0))
+    (count-whole _ _ _ refl (at-append-wrong-count .append-wrong-count .ensures) ∙ ap (wrongCount (a .says)) (h .pairs))
+    (at-bad-line .bad-line .ensures f full to from e h)
 
 pub wrong-count-line-spec : {M : Type 1} → statement M
 wrong-count-line-spec =

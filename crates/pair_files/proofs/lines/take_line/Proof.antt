@@ -17,18 +17,24 @@ part-take-body-start c = mark-long _ (sym (c .before .starts-with-mark .ensures)
 
 returns : tie.Need-returns
 returns c =
+    let at-take-body = c .before .before .before .before .before .before in
+    let at-if2 = at-take-body .before .before .before .before .before in
+    let at-starts-with-mark = at-if2 .before in
+    let at-if1 = at-starts-with-mark .before in
     λ f full e h.
     let d = body-decides pairLineOf line-cut full e in
-    taken-as _ full _ f _ (marked-body (f .lines) full e (sym (h .lines) ∙ c .before .before .before .before .before .before .before .before .before .before .before .before .before .if1 .taken) (sym (c .before .before .before .before .before .before .before .before .before .before .before .before .starts-with-mark .ensures) ∙ c .before .before .before .before .before .before .before .before .before .before .before .if2 .taken))
-    (c .before .before .before .before .before .before .take-body .ensures f _ (d .is) (d .shown) h)
+    taken-as _ full _ f _ (marked-body (f .lines) full e (sym (h .lines) ∙ at-if1 .if1 .taken) (sym (at-starts-with-mark .starts-with-mark .ensures) ∙ at-if2 .if2 .taken))
+    (at-take-body .take-body .ensures f _ (d .is) (d .shown) h)
 
 returns-2 : tie.Need-returns-2
 returns-2 c =
+    let at-take-body2 = c .before .before .before .before .before .before in
+    let at-if1 = at-take-body2 .before .before .before .before in
     λ f full e h.
     let d = held-decides pairLineOf line-cut full e in
     taken-as _ full _ f full
-    (plain-body (f .lines) full e (⊎-elim (λ w. inr (sym (w .1 .ensures) ∙ w .2 .left)) (λ w. inl (λ z. w .left (h .lines ∙ z))) (c .before .before .before .before .before .before .before .before .before .before .if1 .came)))
-    (c .before .before .before .before .before .before .take-body2 .ensures f full (d .is) (d .shown) h)
+    (plain-body (f .lines) full e (⊎-elim (λ w. inr (sym (w .1 .ensures) ∙ w .2 .left)) (λ w. inl (λ z. w .left (h .lines ∙ z))) (at-if1 .if1 .came)))
+    (at-take-body2 .take-body2 .ensures f full (d .is) (d .shown) h)
 
 pub take-line-spec : {M : Type 1} → statement M
 take-line-spec =

@@ -9,7 +9,10 @@ use Rattle.pair_files.proofs.messages.append_faults.Tie as tie
 returns : tie.Need-returns
 unfolding ascii faultsText
 returns c =
-    written-then _ _ _ _ (written-then _ _ _ _ (c .before .before .before .before .before .before .before .before .before .before .before .append-named-fault .ensures) (c .before .before .before .before .before .before .append-named-fault2 .ensures)) (c .before .before .append-beyond-fault .ensures)
+    let at-append-beyond-fault = c .before .before in
+    let at-append-named-fault2 = at-append-beyond-fault .before .before .before .before in
+    let at-append-named-fault = at-append-named-fault2 .before .before .before .before .before in
+    written-then _ _ _ _ (written-then _ _ _ _ (at-append-named-fault .append-named-fault .ensures) (at-append-named-fault2 .append-named-fault2 .ensures)) (at-append-beyond-fault .append-beyond-fault .ensures)
 
 pub append-faults-spec : {M : Type 1} → statement M
 append-faults-spec =

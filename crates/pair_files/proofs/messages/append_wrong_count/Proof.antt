@@ -9,7 +9,11 @@ use Rattle.pair_files.proofs.messages.append_wrong_count.Tie as tie
 returns : tie.Need-returns
 unfolding ascii wrongCount
 returns c =
-    written-then _ _ _ _ (written-then _ _ _ _ (written-then _ _ _ _ (c .before .before .before .before .before .before .before .before .before .before .before .before .before .before .before .append .ensures) (c .before .before .before .before .before .before .before .before .before .before .before .append-decimal .ensures)) (c .before .before .before .before .before .before .append2 .ensures)) (c .before .before .append-decimal2 .ensures)
+    let at-append-decimal2 = c .before .before in
+    let at-append2 = at-append-decimal2 .before .before .before .before in
+    let at-append-decimal = at-append2 .before .before .before .before .before in
+    let at-append = at-append-decimal .before .before .before .before in
+    written-then _ _ _ _ (written-then _ _ _ _ (written-then _ _ _ _ (at-append .append .ensures) (at-append-decimal .append-decimal .ensures)) (at-append2 .append2 .ensures)) (at-append-decimal2 .append-decimal2 .ensures)
 
 pub append-wrong-count-spec : {M : Type 1} → statement M
 append-wrong-count-spec =

@@ -22,11 +22,17 @@ add-name-offset c = omega (arith, c .before .more .ensures)
 
 add-name-offset-2 : tie.Need-add-name-offset-2
 unfolding more
-add-name-offset-2 c = omega (arith, c .before .before .before .before .before .more .ensures)
+add-name-offset-2 c =
+    let at-more = c .before .before .before .before .before in
+    omega (arith, at-more .more .ensures)
 
 returns-3 : tie.Need-returns-3
 returns-3 c =
-    λ f report l m h. named-holds h (c .before .before .before .before .before .before .before .before .before .before .before .before .before .args .old) (c .before .before .before .before .before .before .before .before .before .before .before .before .before .args .new) l m (c .before .before .before .before .before .before .before .before .more .ensures) (c .before .before .before .before .before .before .name-offset .ensures) (c .before .before .name-offset2 .ensures)
+    let at-name-offset2 = c .before .before in
+    let at-name-offset = at-name-offset2 .before .before .before .before in
+    let at-more = at-name-offset .before .before in
+    let start = at-more .before .before .before .before .before in
+    λ f report l m h. named-holds h (start .args .old) (start .args .new) l m (at-more .more .ensures) (at-name-offset .name-offset .ensures) (at-name-offset2 .name-offset2 .ensures)
 
 pub name-pair-spec : {M : Type 1} → statement M
 name-pair-spec =

@@ -14,7 +14,9 @@ slice-aggregate-take-line : tie.Need-slice-aggregate-take-line
 slice-aggregate-take-line c = sym (length-take-le _ _ (c .before .if1 .left))
 
 returns-2 : tie.Need-returns-2
-returns-2 c = λ f rest g h. c .before .before .before .before .before .before .take-line .ensures f rest (g .rest-bytes) h
+returns-2 c =
+    let at-take-line = c .before .before .before .before .before .before in
+    λ f rest g h. at-take-line .take-line .ensures f rest (g .rest-bytes) h
 
 pub end-line-spec : {M : Type 1} → statement M
 end-line-spec =

@@ -9,7 +9,9 @@ returns c = λ t h. end-ended _ _ t h (c .if1 .taken)
 
 returns-2 : tie.Need-returns-2
 returns-2 c =
-    λ t h. end-line _ _ t h (c .before .before .before .before .before .before .before .before .before .before .if1 .left) (c .before .before .before .before .before .before .end-line .ensures (t .file) (t .rest) (h .rest) (h .file))
+    let at-end-line = c .before .before .before .before .before .before in
+    let at-if1 = at-end-line .before .before .before .before in
+    λ t h. end-line _ _ t h (at-if1 .if1 .left) (at-end-line .end-line .ensures (t .file) (t .rest) (h .rest) (h .file))
 
 pub finish-spec : {M : Type 1} → statement M
 finish-spec =

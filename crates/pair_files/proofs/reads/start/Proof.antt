@@ -7,7 +7,10 @@ use Rattle.pair_files.proofs.reads.start.Tie as tie
 
 returns : tie.Need-returns
 returns c =
-    λ line report l w t. start-holds line report (now (c .before .before .before .before .before .before .before .before .before .before .args .to)) (now (c .before .before .before .before .before .before .before .before .before .before .args .from)) l w t (c .before .before .before .before .before .before .change-blocks .ensures) (c .before .before .change-blocks2 .ensures)
+    let at-change-blocks2 = c .before .before in
+    let at-change-blocks = at-change-blocks2 .before .before .before .before in
+    let start = at-change-blocks .before .before .before .before in
+    λ line report l w t. start-holds line report (now (start .args .to)) (now (start .args .from)) l w t (at-change-blocks .change-blocks .ensures) (at-change-blocks2 .change-blocks2 .ensures)
 
 pub start-spec : {M : Type 1} → statement M
 start-spec =

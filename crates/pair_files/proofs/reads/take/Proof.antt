@@ -18,12 +18,20 @@ loop-holds c = taking-start _ _ _ _ _ _ _ _
 
 loop-again : tie.Need-loop-again Inv-loop μ-loop
 loop-again c =
-    taking-byte _ _ _ _ _ _ _ _ (c .before .before .before .before .before .before .before .loop .inv) (c .before .before .before .before .before .before .loop-test .taken) (c .before .before .before .before .if1 .taken) (c .before .before .keep-byte .kept .1 .1 .0) (c .before .before .keep-byte .ensures)
+    let at-keep-byte = c .before .before in
+    let at-if1 = at-keep-byte .before .before in
+    let at-loop-test = at-if1 .before .before in
+    let at-loop = at-loop-test .before in
+    taking-byte _ _ _ _ _ _ _ _ (at-loop .loop .inv) (at-loop-test .loop-test .taken) (at-if1 .if1 .taken) (at-keep-byte .keep-byte .kept .1 .1 .0) (at-keep-byte .keep-byte .ensures)
 
 loop-again-2 : tie.Need-loop-again-2 Inv-loop μ-loop
 loop-again-2 c =
-    let kept = c .before .before .before .before .before .before .end-line .kept .1 .1 .1 .1 .1 in
-    taking-line _ _ _ _ _ _ _ _ (c .before .before .before .before .before .before .before .before .before .before .before .before .before .before .loop .inv) (c .before .before .before .before .before .before .before .before .before .before .before .before .before .loop-test .taken) (c .before .before .before .before .before .before .before .before .before .before .before .if1 .left) (kept .0) (kept .1 .0) (kept .1 .1 .0) (c .before .before .before .before .before .before .end-line .ensures)
+    let at-end-line = c .before .before .before .before .before .before in
+    let at-if1 = at-end-line .before .before .before .before .before in
+    let at-loop-test = at-if1 .before .before in
+    let at-loop = at-loop-test .before in
+    let kept = at-end-line .end-line .kept .1 .1 .1 .1 .1 in
+    taking-line _ _ _ _ _ _ _ _ (at-loop .loop .inv) (at-loop-test .loop-test .taken) (at-if1 .if1 .left) (kept .0) (kept .1 .0) (kept .1 .1 .0) (at-end-line .end-line .ensures)
 
 same-length : tie.Need-same-length Inv-loop μ-loop
 same-length c = c .before .loop .inv .same-line
