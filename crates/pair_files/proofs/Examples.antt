@@ -10,7 +10,7 @@ use Rattle.text_lines.specs.Texts.{more, bodyOf, takeByte, takeBytes, atEnd}
 use Rattle.text_lines.specs.Messages.{badText}
 use Rattle.pair_lines.specs.Lines.{baseOf, bareOf, sizeOf, numberOf, afterNumber, pairOf, secondOf, pairText, completeText, textOf, pairLineOf}
 use Rattle.pair_files.specs.Messages.{namedText, beyondText, namedFault, beyondFault, faultsText, wrongCount}
-use Rattle.pair_files.specs.Files.{PairFile, blankLine, bad, badLine, withWord, named, accepted, pairLine, saidLine, entryLine, takePair, pairFileOf}
+use Rattle.pair_files.specs.Files.{PairFile, blankLine, bad, badLine, withWord, named, accepted, pairLine, saidLine, entryLine, noText, takePair, pairFileOf}
 
 -- a file of pairs into a length of 64
 file : String → PairFile
@@ -50,3 +50,13 @@ lines : file "12\n" .report ∷ file "1 1\n# complete: 2 pairs\n" .report ∷ fi
     ∷ ascii "ERROR: p.txt, line 2: a pair behind the last line of a list: 1 1\n" ∷ []
 unfolding file counts ascii pairFileOf takePair entryLine saidLine pairLine accepted named withWord bad badLine blankLine faultsText beyondFault namedFault beyondText namedText wrongCount badText shownText dots visible decimalOf atEnd takeBytes takeByte bodyOf more pairLineOf textOf completeText pairText secondOf pairOf afterNumber numberOf sizeOf bareOf baseOf saidNumber saidOf isVoid isText startsWith valueOf afterDigits digitsOf dropBlanks digitValue isDigit isBlank withoutReturn hasReturn
 lines = refl
+
+-- a byte order mark and carriage returns at the ends of lines
+windows : counts (pairFileOf (ascii "p.txt") 64 (239 ∷ 187 ∷ 191 ∷ ascii "5 40 # c" ++ 13 ∷ 10 ∷ ascii "# complete: 1 pair" ++ 13 ∷ 10 ∷ [])) ≡ 2 ∷ 1 ∷ 0 ∷ []
+unfolding file counts ascii pairFileOf takePair entryLine saidLine pairLine accepted named withWord bad badLine blankLine faultsText beyondFault namedFault beyondText namedText wrongCount badText shownText dots visible decimalOf atEnd takeBytes takeByte bodyOf more pairLineOf textOf completeText pairText secondOf pairOf afterNumber numberOf sizeOf bareOf baseOf saidNumber saidOf isVoid isText startsWith valueOf afterDigits digitsOf dropBlanks digitValue isDigit isBlank withoutReturn hasReturn
+windows = refl
+
+-- the same text in two pieces
+pieces : takeBytes (takePair (ascii "p.txt") 64) (takeBytes (takePair (ascii "p.txt") 64) noText (ascii "5 4")) (ascii "0\n7 2") .rest ≡ ascii "7 2"
+unfolding file counts ascii pairFileOf takePair entryLine saidLine pairLine accepted named withWord bad badLine blankLine faultsText beyondFault namedFault beyondText namedText wrongCount badText shownText dots visible decimalOf atEnd takeBytes takeByte bodyOf more pairLineOf textOf completeText pairText secondOf pairOf afterNumber numberOf sizeOf bareOf baseOf saidNumber saidOf isVoid isText startsWith valueOf afterDigits digitsOf dropBlanks digitValue isDigit isBlank withoutReturn hasReturn
+pieces = refl
