@@ -26,13 +26,13 @@ use Rattle.pair_file_laws.proofs.ListLaws.{in-more, olds-more, news-mor
 use Rattle.pair_file_laws.proofs.SideLaws.{Side, side-more}
 use Rattle.pair_file_laws.proofs.KeepLaws.{text-keeps}
 
--- ---- one pair more
+-- ---- the two sides, and one pair more
 
 module _ (list : List Pairs.Pair) (to from : ℕ → ℕ) (size : ℕ) (g : GoodPairs list to from size) where
-  to-side : Side (olds list) (isPair list) to
+  pub to-side : Side (olds list) (isPair list) to
   to-side = record { once = g .olds-once; below = g .olds-below; some = g .to-some; word = g .to-new }
 
-  from-side : Side (news list) (λ q p. isPair list p q) from
+  pub from-side : Side (news list) (λ q p. isPair list p q) from
   from-side = record { once = g .news-once; below = g .news-below; some = g .from-some; word = g .from-old }
 
   module _ (k old new : ℕ) (line : 0 < k) (l : old < 65536) (m : new < 65536) (a : to old ≡ 0) (b : from new ≡ 0) (fits : new < size) where

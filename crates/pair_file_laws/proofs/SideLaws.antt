@@ -1,6 +1,6 @@
 -- What a table says of one side of a list of pairs, and of the list with one pair more. Assumes nothing.
 use mathlib.Core.Path.{_≡_, refl, sym, ap, ap₂, _∙_}
-use mathlib.Core.Bool.{Bool, true, false, not, _&&_, _||_, or-false}
+use mathlib.Core.Bool.{Bool, true, false, not, _&&_, _||_, or-false, true≢false}
 use mathlib.Core.List.{List, [], _∷_, _++_}
 use Prim.Native.Nat.{ℕ, _+_, _*_, _%_, _<_}
 use native.Mathlib.Omega.{arith}
@@ -89,3 +89,22 @@ module _ (keys : List ℕ) (paired : ℕ → ℕ → Bool) (table : ℕ → ℕ)
     some = λ p n. key-some p n (eqb p key) refl ∙ sym (ap (λ (ps : List ℕ). isIn ps p) a ∙ in-more keys key p);
     word = λ p n q. key-word p n q (eqb p key) refl ∙ sym (b p q);
   }
+
+-- ---- an offset of this side that is in no pair, and one that is in one
+
+module _ (keys : List ℕ) (paired : ℕ → ℕ → Bool) (table : ℕ → ℕ) (s : Side keys paired table) (p : ℕ) (l : p < 65536) where
+  pub absent : isIn keys p ≡ false → table p ≡ 0
+  unfolding hasWord
+  absent e = go (eqb (table p) 0) refl (s .some p l ∙ e)
+    where
+      go : (t : Bool) → eqb (table p) 0 ≡ t → not t ≡ false → table p ≡ 0
+      go true a b = eqb-true (table p) 0 a
+      go false a b = absurd (true≢false b)
+
+  pub present : isIn keys p ≡ true → (table p ≡ 0 → ⊥) × (paired p (table p % 65536) ≡ true)
+  unfolding hasWord names
+  present e =
+      let some : not (eqb (table p) 0) ≡ true = s .some p l ∙ e in (
+        λ z. true≢false (sym some ∙ ap (λ (w : ℕ). not (eqb w 0)) z),
+        sym (s .word p l (table p % 65536)) ∙ ap₂ (λ (t u : Bool). t && u) some (eq-eqb (table p % 65536) (table p % 65536) refl),
+      )
