@@ -1,6 +1,6 @@
 //! Asks every engine the same and holds their answers against each other.
 
-use crate::cases::{Case, Engine, History, Outcome, Ran, WalkCase, Walked};
+use crate::cases::{Case, Engine, History, Outcome, Ran, Renumbering, WalkCase, Walked};
 use crate::show;
 use crate::shrink;
 
@@ -56,6 +56,41 @@ impl Input for Case {
 
     fn show(&self) -> String {
         show::case(self)
+    }
+}
+
+#[derive(PartialEq, Eq)]
+pub struct SeenRenumbering {
+    pub outcome: Outcome,
+    pub buffers: [Vec<u64>; 3],
+}
+
+impl Seen for SeenRenumbering {
+    fn show(&self) -> String {
+        let [words, out, again] = &self.buffers;
+        format!("{:?}; words {}; out {}; again {}", self.outcome, show::words(words), show::words(out), show::words(again))
+    }
+}
+
+impl Input for Renumbering {
+    type Seen = SeenRenumbering;
+
+    fn ask(&self, engine: &dyn Engine) -> Option<SeenRenumbering> {
+        let mut renumbering = self.clone();
+        let outcome = engine.renumber(&mut renumbering)?;
+        Some(SeenRenumbering { outcome, buffers: [renumbering.set.words, renumbering.out, renumbering.again] })
+    }
+
+    fn answers(&self) -> u64 {
+        1
+    }
+
+    fn smaller(&self) -> Vec<Self> {
+        shrink::renumbering(self)
+    }
+
+    fn show(&self) -> String {
+        show::renumbering(self)
     }
 }
 
