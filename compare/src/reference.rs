@@ -150,9 +150,12 @@ fn third(case: &mut Case, join: fn(&FixedBitSet, &FixedBitSet) -> FixedBitSet) -
 
 /// A plain loop, since the Rust has no such call: each member is inserted at its new offset. None where the call is refused.
 fn renumbered(set: &FixedBitSet, pairs: &[Pair], bits: usize, out: &mut [u64]) -> Option<FixedBitSet> {
+    if !fits(bits, out.len()) || pairs.iter().any(|pair| pair.new >= bits as u64) {
+        return None;
+    }
     let places: HashMap<u64, u64> = pairs.iter().map(|pair| (pair.old, pair.new)).collect();
     let news: HashSet<u64> = pairs.iter().map(|pair| pair.new).collect();
-    if !fits(bits, out.len()) || places.len() < pairs.len() || news.len() < pairs.len() || news.iter().any(|new| *new >= bits as u64) {
+    if places.len() < pairs.len() || news.len() < pairs.len() {
         return None;
     }
     let mut moved = FixedBitSet::with_capacity(bits);

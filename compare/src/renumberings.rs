@@ -8,18 +8,26 @@ use crate::judge::{Difference, Judge};
 use crate::prng::Prng;
 use crate::random::damage_set;
 
-/// The last of them are `times` random inputs.
-pub fn run(judge: &mut Judge, random: &mut Prng, times: usize) -> Result<(), Difference> {
-    small(judge)?;
+/// How far a run goes.
+pub struct Extent {
+    /// Every n-th call with a list of three pairs is made on the smallest sets: of the calls with each list some, where n is 4.
+    pub every: usize,
+    /// How many random inputs.
+    pub random: usize,
+}
+
+const DIRECTIONS: [Direction; 3] = [Direction::Forward, Direction::Back, Direction::ForwardAndBack];
+
+pub fn run(judge: &mut Judge, random: &mut Prng, extent: &Extent) -> Result<(), Difference> {
+    small(judge, extent.every)?;
     edges(judge, random)?;
     long(judge, random)?;
     damaged(judge)?;
-    (0..times).try_for_each(|_| check(judge, &any(random)))
+    (0..extent.random).try_for_each(|_| check(judge, &any(random)))
 }
 
 fn check(judge: &mut Judge, case: &Renumbering) -> Result<(), Difference> {
-    let directions = [Direction::Forward, Direction::Back, Direction::ForwardAndBack];
-    directions.into_iter().try_for_each(|direction| judge.check(&Renumbering { direction, ..case.clone() }))
+    DIRECTIONS.into_iter().try_for_each(|direction| judge.check(&Renumbering { direction, ..case.clone() }))
 }
 
 /// With the words that both sets need and `further` ones of the caller.
@@ -34,16 +42,23 @@ fn pair(old: usize, new: usize) -> Pair {
 }
 
 /// Every list of up to three pairs over the offsets 0 to 4 and one that no set has, from every set of 0 to 3 bits to every length of 0 to 4.
-fn small(judge: &mut Judge) -> Result<(), Difference> {
+fn small(judge: &mut Judge, every: usize) -> Result<(), Difference> {
     let offsets = [0, 1, 2, 3, 4, MOST];
     let pairs: Vec<Pair> = offsets.iter().flat_map(|old| offsets.map(|new| pair(*old, new))).collect();
     let sets: Vec<Lent> = (0..=3).flat_map(|n| (0..1 << n).map(move |bits: usize| set(n, 1, |p| bits >> p & 1 == 1))).collect();
+    let calls = || (0..=4).flat_map(|bits| DIRECTIONS.map(|direction| (bits, direction)));
+    let mut made = 0;
     for size in 0..=3 {
         for list in 0..pairs.len().pow(size) {
             let further = list % 2;
             let list: Vec<Pair> = (0..size).map(|place| pairs[list / pairs.len().pow(place) % pairs.len()]).collect();
             for set in &sets {
-                (0..=4).try_for_each(|bits| check(judge, &whole(set, &list, bits, further)))?;
+                for (bits, direction) in calls() {
+                    made += 1;
+                    if size < 3 || made % every == 0 {
+                        judge.check(&Renumbering { direction, ..whole(set, &list, bits, further) })?;
+                    }
+                }
             }
         }
     }
