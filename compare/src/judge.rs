@@ -3,6 +3,7 @@
 use crate::cases::{Case, Engine, History, Outcome, Ran, Renumbering, WalkCase, Walked};
 use crate::show;
 use crate::shrink;
+use std::time::{Duration, Instant};
 
 /// Something that engines can be asked.
 pub trait Input: Clone {
@@ -235,15 +236,17 @@ impl Judge {
         Ok(())
     }
 
-    /// Takes the first smaller input that still differs, until none does.
+    /// Takes the first smaller input that still differs, until none does, or the tries or the time are used up.
     fn reduced<I: Input>(&self, input: &I) -> Difference {
         const TRIES: usize = 50_000;
+        const TIME: Duration = Duration::from_secs(20);
+        let start = Instant::now();
         let mut least = input.clone();
         let mut tries = 0;
         'again: loop {
             for candidate in least.smaller() {
                 tries += 1;
-                if tries > TRIES {
+                if tries > TRIES || start.elapsed() > TIME {
                     break 'again;
                 }
                 if self.differing(&candidate).is_some() {

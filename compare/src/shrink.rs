@@ -69,6 +69,19 @@ fn simpler_words(words: &[u64]) -> Vec<Vec<u64>> {
     smaller
 }
 
+/// Words of which a part is 0, the largest parts first.
+fn bare(words: &[u64]) -> Vec<Vec<u64>> {
+    let mut smaller = Vec::new();
+    for (start, end) in parts(words.len(), unit(words.len())) {
+        if words[start..end].iter().any(|word| *word != 0) {
+            let mut other = words.to_vec();
+            other[start..end].fill(0);
+            smaller.push(other);
+        }
+    }
+    smaller
+}
+
 fn lents(set: &Lent) -> Vec<Lent> {
     let mut smaller: Vec<Lent> = below(set.length).into_iter().map(|length| Lent { length, words: set.words.clone() }).collect();
     smaller.extend(below(set.length).into_iter().map(|length| cut(set, length)));
@@ -226,8 +239,12 @@ fn put(set: &mut Lent, p: u64, member: bool) -> bool {
 }
 
 pub fn renumbering(case: &Renumbering) -> Vec<Renumbering> {
-    let n = case.pairs.len();
-    let mut smaller: Vec<Renumbering> = parts(n, unit(n)).into_iter().map(|(start, end)| without_pairs(case, start, end)).collect();
+    let (length, n) = (case.set.length, case.pairs.len());
+    let mut smaller: Vec<Renumbering> = Vec::new();
+    smaller.extend(bare(&case.set.words).into_iter().map(|words| Renumbering { set: Lent { length, words }, ..case.clone() }));
+    smaller.extend(bare(&case.out).into_iter().map(|out| Renumbering { out, ..case.clone() }));
+    smaller.extend(bare(&case.again).into_iter().map(|again| Renumbering { again, ..case.clone() }));
+    smaller.extend(parts(n, unit(n)).into_iter().map(|(start, end)| without_pairs(case, start, end)));
     smaller.extend(shorter(&case.pairs, unit(n)).into_iter().map(|pairs| Renumbering { pairs, ..case.clone() }));
     smaller.extend(lents(&case.set).into_iter().map(|set| Renumbering { set, ..case.clone() }));
     smaller.extend(below(case.bits).into_iter().map(|bits| Renumbering { bits, ..case.clone() }));
