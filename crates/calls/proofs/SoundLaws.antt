@@ -20,9 +20,9 @@ use Rattle.sets.proofs.ReadLaws.{read-clipped}
 use Rattle.sets.proofs.WriteLaws.{Clipped}
 use Rattle.edits.specs.Edits.{grown, isIn}
 use Rattle.edits.proofs.ListChanges.{not-listed}
-use Rattle.two_sets.specs.Operations.{joined}
-use Rattle.two_sets.specs.declared.operation.Operation.{Operation}
-use Rattle.two_sets.specs.declared.operation.Operation.the-variants.{Union, Intersection, Difference, SymmetricDifference}
+use Rattle.operations.specs.Operations.{joined}
+use Rattle.operations.specs.declared.operation.Operation.{Operation}
+use Rattle.operations.specs.declared.operation.Operation.the-variants.{Union, Intersection, Difference, SymmetricDifference}
 use Rattle.two_sets.specs.Combined.{combined}
 use Rattle.calls.specs.Calls.{Call, Insert, Remove, Put, Toggle, Set, CopyBit, InsertRange, RemoveRange, ToggleRange, SetRange, Clear, Grow, GrowAndInsert, UnionWith, IntersectWith, DifferenceWith, SymmetricDifferenceWith, InsertAll, refusal, done, leaves}
 

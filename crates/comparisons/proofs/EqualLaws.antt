@@ -13,7 +13,7 @@ use Rattle.sets.specs.Members.{Members, wordsOf, read}
 use Rattle.sets.specs.declared.fixed_bit_set.FixedBitSet.{FixedBitSet}
 use Rattle.sets.proofs.WordLaws.{words-hold}
 use Rattle.tests.proofs.RowLaws.{all-not-some}
-use Rattle.two_sets.specs.declared.operation.Operation.the-variants.{SymmetricDifference}
+use Rattle.operations.specs.declared.operation.Operation.the-variants.{SymmetricDifference}
 use Rattle.comparisons.proofs.RelationLaws.{member-below}
 use Rattle.comparisons.proofs.SearchLaws.{Searched, joinedAt, joined-some, joined-none}
 use Rattle.comparisons.specs.Orders.{equal}

@@ -16,10 +16,10 @@ use Rattle.sets.specs.declared.fixed_bit_set.FixedBitSet.{FixedBitSet}
 use Rattle.sets.proofs.QuestionLaws.{Valid, BothValid}
 use Rattle.sets.proofs.ReadLaws.{read-bit}
 use Rattle.sets.proofs.WordLaws.{bit-at, within-words}
-use Rattle.two_sets.specs.Operations.{joinedWord}
-use Rattle.two_sets.specs.declared.operation.Operation.the-variants.{SymmetricDifference}
-use Rattle.two_sets.proofs.BlockJoins.{Words}
-use Rattle.two_sets.proofs.WordJoins.{joined-digit, joined-is}
+use Rattle.operations.specs.Operations.{joinedWord}
+use Rattle.operations.specs.declared.operation.Operation.the-variants.{SymmetricDifference}
+use Rattle.operations.proofs.BlockJoins.{Words}
+use Rattle.operations.proofs.WordJoins.{joined-digit, joined-is}
 use Rattle.comparisons.proofs.SearchLaws.{FirstMasked, FirstJoin, first-by}
 use Rattle.comparisons.specs.Orders.{orderOf, wordsOrder, order}
 

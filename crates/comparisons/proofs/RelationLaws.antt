@@ -24,7 +24,7 @@ use Rattle.sets.proofs.WordLaws.{words-hold}
 use Rattle.tests.proofs.RowLaws.{some-ext, all-not-some}
 use Rattle.tests.specs.Tests.{anyIn}
 use Rattle.tests.specs.Rules.{containsAnyRule}
-use Rattle.two_sets.specs.declared.operation.Operation.the-variants.{Intersection, Difference}
+use Rattle.operations.specs.declared.operation.Operation.the-variants.{Intersection, Difference}
 use Rattle.comparisons.specs.Relations.{disjoint, subset}
 use Rattle.comparisons.specs.Helpers.{common}
 use Rattle.comparisons.proofs.SearchLaws.{Searched, joinedAt, none-below, joined-some, joined-none}

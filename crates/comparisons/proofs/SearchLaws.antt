@@ -18,10 +18,10 @@ use Rattle.sets.specs.Questions.{questions, bothQuestions}
 use Rattle.sets.specs.declared.fixed_bit_set.FixedBitSet.{FixedBitSet}
 use Rattle.sets.proofs.QuestionLaws.{valid, first-both, BothValid}
 use Rattle.sets.proofs.ReadLaws.{read-digit}
-use Rattle.two_sets.specs.Operations.{joined, joinedWord, joinedBy}
-use Rattle.two_sets.specs.declared.operation.Operation.{Operation}
-use Rattle.two_sets.proofs.BlockJoins.{Words}
-use Rattle.two_sets.proofs.WordJoins.{joined-digit, joined-lt, word-by}
+use Rattle.operations.specs.Operations.{joined, joinedWord, joinedBy}
+use Rattle.operations.specs.declared.operation.Operation.{Operation}
+use Rattle.operations.proofs.BlockJoins.{Words}
+use Rattle.operations.proofs.WordJoins.{joined-digit, joined-lt, word-by}
 use Rattle.comparisons.specs.Helpers.{common, FirstAt}
 
 -- ---- the searched words as joined words

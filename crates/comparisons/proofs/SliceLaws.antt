@@ -11,7 +11,7 @@ use Rattle.sets.specs.Rules.{SlicePart, firstWords, asSliceRule}
 use Rattle.sets.specs.declared.fixed_bit_set.FixedBitSet.{FixedBitSet}
 use Rattle.sets.proofs.OutcomeLaws.{given-yes}
 use Rattle.sets.proofs.QuestionLaws.{both-valid}
-use Rattle.sets.proofs.SliceLaws.{own-part}
+use Rattle.set_views.proofs.SliceLaws.{own-part}
 use Rattle.comparisons.specs.Rules.{longerRule}
 
 module _ (a : FixedBitSet) (words : RefT (List ℕ)) (b : FixedBitSet) (other : RefT (List ℕ)) {m : ℕ}

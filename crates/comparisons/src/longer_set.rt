@@ -1,5 +1,5 @@
+use set_views::as_slice;
 use sets::FixedBitSet;
-use sets::as_slice;
 use sets::check_both;
 ghost use mathlib.Core.Path.{_≡_};
 ghost use Rattle.sets.specs.Questions.{bothQuestions};

@@ -4,7 +4,7 @@ use sets::blocks_of;
 ghost use mathlib.Core.Path.{_≡_};
 ghost use Prim.Native.Nat.{ℕ, min};
 ghost use lib.ListN.{length, getD};
-ghost use Rattle.two_sets.specs.Operations.{maskedJoin};
+ghost use Rattle.operations.specs.Operations.{maskedJoin};
 ghost use Rattle.comparisons.specs.Helpers.{common, FirstAt};
 
 // How many words both sets have.

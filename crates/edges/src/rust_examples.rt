@@ -5,18 +5,18 @@ use crate::report::found;
 use crate::report::told;
 use comparisons::eq;
 use edits::insert;
-use edits::insert_range;
+use extremes::maximum;
+use extremes::minimum;
+use fresh_sets::with_capacity;
+use fresh_sets::with_capacity_and_blocks;
+use range_edits::insert_range;
+use set_views::is_empty;
+use set_views::len;
 use sets::Edited;
 use sets::FixedBitSet;
 use sets::Told;
-use sets::is_empty;
-use sets::len;
-use sets::with_capacity;
-use sets::with_capacity_and_blocks;
 use tests::is_clear;
 use tests::is_full;
-use tests::maximum;
-use tests::minimum;
 
 fn blocks(tally: Tally) -> Tally {
     let mut words: [u64; 1] = [9];

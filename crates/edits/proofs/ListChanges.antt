@@ -20,8 +20,8 @@ use Rattle.sets.proofs.ListQuestionLaws.{positions-both}
 use Rattle.sets.proofs.WriteLaws.{Clipped, read-write, write-write, write-fits}
 use Rattle.sets.proofs.ReadLaws.{read-clipped, write-read, changed-clipped, write-valid}
 use Rattle.edits.specs.Edits.{inserted, isIn, insertedAll}
-use Rattle.edits.specs.declared.change.Change.the-variants.{Insert}
-use Rattle.edits.proofs.WordChanges.{insert-word}
+use Rattle.changes.specs.declared.change.Change.the-variants.{Insert}
+use Rattle.changes.proofs.WordChanges.{insert-word}
 use Rattle.edits.proofs.PositionChanges.{word-room, position-write}
 
 -- no position marks nothing

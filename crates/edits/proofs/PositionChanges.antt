@@ -20,10 +20,10 @@ use Rattle.sets.proofs.OutcomeLaws.{given-yes}
 use Rattle.sets.proofs.QuestionLaws.{Valid, first-both, valid, position-below}
 use Rattle.sets.proofs.ReadLaws.{read-below, changed-write, changed-outcome}
 use Rattle.sets.proofs.WordLaws.{word-of}
-use Rattle.edits.specs.Changes.{effect, changedWord}
+use Rattle.changes.specs.Changes.{effect, changedWord}
 use Rattle.edits.specs.Rules.{atPosition}
-use Rattle.edits.specs.declared.change.Change.{Change}
-use Rattle.edits.proofs.WordChanges.{changed-digit, changed-lt}
+use Rattle.changes.specs.declared.change.Change.{Change}
+use Rattle.changes.proofs.WordChanges.{changed-digit, changed-lt}
 
 -- two equality tests agree where their equations do
 eqb-agree : (a b c d : ℕ) → (a ≡ b → c ≡ d) → (c ≡ d → a ≡ b) → eqb a b ≡ eqb c d

@@ -1,6 +1,6 @@
-use crate::change::Change;
-use crate::change::assigning;
-use crate::change::change_word;
+use changes::Change;
+use changes::assigning;
+use changes::change_word;
 use sets::Edited;
 use sets::FixedBitSet;
 use sets::check_position;
@@ -9,7 +9,7 @@ ghost use mathlib.Core.Path.{_≡_};
 ghost use lib.Dec.{eqb};
 ghost use Rattle.sets.specs.Members.{read, changed};
 ghost use Rattle.sets.specs.Outcomes.{outcome};
-ghost use Rattle.edits.specs.Changes.{effect};
+ghost use Rattle.changes.specs.Changes.{effect};
 ghost use Rattle.edits.specs.Rules.{atPosition, insertRule, removeRule, toggleRule, setRule, copyBitRule, putOutcome, putRule};
 
 #[repr(C)]

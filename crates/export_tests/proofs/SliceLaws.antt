@@ -14,7 +14,7 @@ use Rattle.sets.specs.Rules.{SlicePart, firstWords}
 use Rattle.sets.specs.declared.fixed_bit_set.FixedBitSet.{FixedBitSet}
 use Rattle.sets.proofs.OutcomeLaws.{given-no}
 use Rattle.sets.proofs.QuestionLaws.{Valid, BothValid, both-valid}
-use Rattle.sets.proofs.SliceLaws.{own-part}
+use Rattle.set_views.proofs.SliceLaws.{own-part}
 use Rattle.comparisons.specs.Rules.{longerRule}
 use Rattle.comparisons.proofs.SliceLaws.{longer-first, longer-second}
 

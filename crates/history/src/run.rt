@@ -1,8 +1,8 @@
 use crate::ran::Ran;
 use calls::replay;
+use fresh_sets::with_capacity;
 use sets::FixedBitSet;
 use sets::ask_new;
-use sets::with_capacity;
 use whole_walks::Walk;
 use whole_walks::walk_whole;
 ghost use mathlib.Core.Path.{_≡_};

@@ -7,7 +7,7 @@ use lib.ListN.{length}
 use Rattle.offset_files.specs.Files.{Text, noText, takeBytes, atEnd, fileOf}
 use Rattle.offset_files.specs.Holds.{HoldsFile, HoldsText}
 use Rattle.offset_files.specs.declared.reading.Reading.{Reading}
-use Rattle.offset_files.proofs.TextLaws.{pieces}
+use Rattle.offset_reads.proofs.TextLaws.{pieces}
 use Rattle.layout_tool.specs.Loading.{Took, ReadSome, ReadWhole, Usable}
 
 module _ {name : List ℕ} {r : Reading} {line words table report : List ℕ} where

@@ -5,10 +5,10 @@ use crate::listing::write_job;
 use crate::messages::incomplete;
 use crate::options::Options;
 use crate::streams::write_whole;
-use listing_lines::append_tables;
+use listing_pieces::same_offsets;
 use listings::Job;
-use listings::same_offsets;
 use std::num::wrapping_add_u64;
+use verdict_lines::append_tables;
 use whole_walks::Walk;
 
 // How the comparison with a table came out: `Stopped` where the standard output failed.

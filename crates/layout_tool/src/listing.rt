@@ -3,10 +3,10 @@ use crate::messages::incomplete;
 use crate::messages::tell;
 use crate::streams::write_whole;
 use byte_texts::append_name;
+use listing_pieces::first_page;
+use listing_pieces::next_piece;
 use listings::Job;
 use listings::Stage;
-use listings::first_page;
-use listings::next_piece;
 
 fn is_over(stage: Stage) -> bool {
     match stage {

@@ -1,8 +1,2 @@
 pub mod WalkLaws
-pub mod SetLaws
 pub mod FillLaws
-pub mod PieceLaws
-pub mod SureLaws
-pub mod StageLaws
-pub mod PageLaws
-pub mod VerdictLaws

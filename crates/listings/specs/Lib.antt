@@ -1,4 +1,2 @@
 pub mod Pages
 pub mod Fills
-pub mod Pieces
-pub mod Verdicts

@@ -60,7 +60,7 @@ fn append_batch(
 }
 
 // How many bytes of the buffer are lines, what is left of the walk then, whether that is nothing, and whether the lines are there whole.
-pub(crate) struct Filled {
+pub struct Filled {
     pub length: usize,
     pub one: Part,
     pub two: Part,
@@ -84,7 +84,7 @@ fn unfilled(one: Part, two: Part, place: usize) -> Filled
 }
 
 // Lines from the buffer's start on, while there is room for another batch.
-pub(crate) fn fill_walk(
+pub fn fill_walk(
     out: &mut [u8],
     words: &[u64],
     other: &[u64],

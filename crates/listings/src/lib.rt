@@ -1,14 +1,11 @@
-// What the tool writes, piece by piece into a lent buffer.
+// What a command writes, and the lines of a walk, as many as a lent buffer has room for.
 mod fills;
 mod jobs;
-mod pages;
-mod verdicts;
 mod walk_steps;
 
+pub use fills::Filled;
+pub use fills::fill_walk;
 pub use jobs::Job;
 pub use jobs::Page;
 pub use jobs::Piece;
 pub use jobs::Stage;
-pub use pages::first_page;
-pub use pages::next_piece;
-pub use verdicts::same_offsets;

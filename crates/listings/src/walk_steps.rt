@@ -8,15 +8,13 @@ use next_many::union_next_many;
 use sets::FixedBitSet;
 use sets::Part;
 use whole_walks::Walk;
-use whole_walks::walk_count;
 ghost use mathlib.Core.Path.{_≡_};
 ghost use lib.ListN.{length};
-ghost use Rattle.sets.specs.Questions.{bothQuestions};
-ghost use Rattle.whole_walks.specs.Walks.{walkList, firstRow, secondRow};
+ghost use Rattle.whole_walks.specs.Walks.{firstRow, secondRow};
 ghost use Rattle.next_many.specs.Many.{frontPairs};
 ghost use Rattle.next_many.specs.Rules.{manyPairOutcome, writtenPair};
 ghost use Rattle.listings.specs.Fills.{Asked};
-ghost use Rattle.listings.specs.Pages.{allOffsets, offsetsOf};
+ghost use Rattle.listings.specs.Pages.{offsetsOf};
 
 // A walk of one part: the second record passes through.
 fn alone(many: NextMany, two: Part) -> NextManyPair
@@ -58,14 +56,4 @@ pub(crate) fn walk_next_many(
             symmetric_difference_next_many(set, words, set, other, one, two, offsets)
         }
     }
-}
-
-// How many offsets a walk has.
-pub(crate) fn walk_size(words: &[u64], other: &[u64], walk: Walk) -> usize
-    requires { ⌜ bothQuestions allOffsets (now words) allOffsets (now other) ≡ 0 ⌝ }
-    ensures { λ r. ⌜ r ≡ length (walkList walk (offsetsOf (now (words .entry))) (offsetsOf (now (other .entry)))) ⌝ }
-{
-    let set = FixedBitSet { length: 65536 };
-    let counted = walk_count(set, words, set, other, walk);
-    counted.count
 }

@@ -3,6 +3,3 @@ pub mod ReportLaws
 pub mod TableLaws
 pub mod HoldsLaws
 pub mod EntryLaws
-pub mod CutLaws
-pub mod TextLaws
-pub mod ReadLaws

@@ -16,7 +16,7 @@ ghost use Rattle.offset_files.specs.Holds.{HoldsFile};
 ghost use Rattle.offset_files.specs.Messages.{wrongCount};
 
 // A line with nothing to say.
-pub(crate) fn blank_line(reading: Reading) -> Reading
+pub fn blank_line(reading: Reading) -> Reading
     ensures { λ r. ⌜ ((f : File) (words table report : List ℕ) → HoldsFile f reading words table report → HoldsFile (blankLine f) r words table report) ⌝ }
 {
     let mut next = reading;
@@ -24,8 +24,8 @@ pub(crate) fn blank_line(reading: Reading) -> Reading
     next
 }
 
-// A line that may not stand there.
-pub(crate) fn bad_line(
+// A line that may not stand there. Asks nothing, as those below: they are for the reads, which start with buffers that hold an empty file.
+pub fn bad_line(
     reading: Reading,
     name: &[u8],
     body: &[u8],
@@ -63,7 +63,7 @@ fn wrong_count_line(
 }
 
 // The last line of a list.
-pub(crate) fn said_line(
+pub fn said_line(
     reading: Reading,
     name: &[u8],
     body: &[u8],
@@ -128,7 +128,7 @@ fn second_naming(
 }
 
 // An offset: none may stand behind the last line of a list.
-pub(crate) fn offset_line(
+pub fn offset_line(
     reading: Reading,
     name: &[u8],
     body: &[u8],

@@ -7,5 +7,3 @@ pub mod OutcomeLaws
 pub mod ReadLaws
 mod StrayLaws
 pub mod ZeroLaws
-pub mod CopyLaws
-pub mod SliceLaws

@@ -1,11 +1,9 @@
-// A set of bits over lent 64-bit words: what it is, the questions before any work, the answers, views of a set, and fresh sets.
+// A set of bits over lent 64-bit words: what it is, the questions before any work and the answers. The rules of fresh sets and of views are here too.
 mod answers;
 mod fixed_bit_set;
-mod fresh;
 mod membership;
 mod questions;
 mod sizes;
-mod views;
 
 pub use answers::Counted;
 pub use answers::Edited;
@@ -14,8 +12,6 @@ pub use answers::Part;
 pub use answers::Position;
 pub use answers::Told;
 pub use fixed_bit_set::FixedBitSet;
-pub use fresh::with_capacity;
-pub use fresh::with_capacity_and_blocks;
 pub use membership::member;
 pub use questions::ask_new;
 pub use questions::ask_part;
@@ -30,7 +26,3 @@ pub use questions::check_position;
 pub use questions::check_range;
 pub use questions::check_two;
 pub use sizes::blocks_of;
-pub use views::as_slice;
-pub use views::as_slice_number;
-pub use views::is_empty;
-pub use views::len;

@@ -3,6 +3,3 @@ pub mod ScanLaws
 pub mod PartLaws
 pub mod TestLaws
 pub mod RangeTestLaws
-pub mod RunLaws
-pub mod CountLaws
-pub mod ExtremeLaws

@@ -8,7 +8,7 @@ use Rattle.sets.specs.declared.fixed_bit_set.FixedBitSet.{FixedBitSet}
 use Rattle.sets.specs.declared.answers.Counted.{Counted}
 use Rattle.sets.proofs.ReadLaws.{read-clipped}
 use Rattle.sets.specs.Questions.{bothQuestions}
-use Rattle.two_sets.specs.declared.operation.Operation.the-variants.{Union, Intersection, Difference, SymmetricDifference}
+use Rattle.operations.specs.declared.operation.Operation.the-variants.{Union, Intersection, Difference, SymmetricDifference}
 use Rattle.two_set_counts.specs.Helpers.{jointCountRule}
 use Rattle.two_set_counts.specs.Rules.{unionCountRule, intersectionCountRule, differenceCountRule, symmetricDifferenceCountRule}
 use Rattle.two_set_counts.proofs.ListLaws.{union-size, intersection-size, difference-size, symmetric-difference-size}

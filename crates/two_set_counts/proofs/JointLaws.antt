@@ -17,9 +17,9 @@ use Rattle.sets.proofs.QuestionLaws.{valid-yes, both-valid}
 use Rattle.sets.proofs.ReadLaws.{read-bit, read-clipped}
 use Rattle.sets.proofs.WordLaws.{words-hold}
 use Rattle.sets.proofs.WriteLaws.{Clipped}
-use Rattle.two_sets.specs.Operations.{joined}
-use Rattle.two_sets.specs.declared.operation.Operation.{Operation}
-use Rattle.two_sets.proofs.WordJoins.{joined-none}
+use Rattle.operations.specs.Operations.{joined}
+use Rattle.operations.specs.declared.operation.Operation.{Operation}
+use Rattle.operations.proofs.WordJoins.{joined-none}
 use Rattle.tests.proofs.RowLaws.{count-clip}
 use Rattle.two_set_counts.specs.Helpers.{jointOnes, onesFrom, onesBeyond}
 

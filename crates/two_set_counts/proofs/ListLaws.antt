@@ -9,7 +9,7 @@ use Rattle.word_bits.specs.Counts.{count}
 use Rattle.word_bits.specs.Digits.{one}
 use Rattle.sets.specs.Members.{Members}
 use Rattle.sets.proofs.WriteLaws.{Clipped}
-use Rattle.two_sets.specs.declared.operation.Operation.the-variants.{Union, Intersection, Difference, SymmetricDifference}
+use Rattle.operations.specs.declared.operation.Operation.the-variants.{Union, Intersection, Difference, SymmetricDifference}
 use Rattle.tests.proofs.RowLaws.{count-clip}
 use Rattle.two_set_counts.specs.Lists.{positions, unionList, intersectionList, differenceList, symmetricDifferenceList}
 use Rattle.two_set_counts.specs.Helpers.{jointOnes}

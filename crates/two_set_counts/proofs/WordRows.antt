@@ -8,10 +8,10 @@ use Rattle.word_bits.specs.Counts.{count}
 use Rattle.word_bits.specs.Digits.{digit, row}
 use Rattle.word_bits.proofs.Ones.{count-ext}
 use Rattle.sets.specs.Members.{bitOf}
-use Rattle.two_sets.specs.Operations.{joined, joinedBy}
-use Rattle.two_sets.specs.declared.operation.Operation.{Operation}
-use Rattle.two_sets.proofs.BlockJoins.{Words}
-use Rattle.two_sets.proofs.WordJoins.{joined-digit, word-by}
+use Rattle.operations.specs.Operations.{joined, joinedBy}
+use Rattle.operations.specs.declared.operation.Operation.{Operation}
+use Rattle.operations.proofs.BlockJoins.{Words}
+use Rattle.operations.proofs.WordJoins.{joined-digit, word-by}
 
 -- it has the joined bits
 pub row-by : {op o : Operation} → op ≡ o → {ws vs : List ℕ} → Words ws → Words vs → (n : ℕ) {r : ℕ}

@@ -7,9 +7,9 @@ use Rattle.sets.specs.Members.{Members, read}
 use Rattle.sets.specs.Outcomes.{counted}
 use Rattle.sets.specs.declared.fixed_bit_set.FixedBitSet.{FixedBitSet}
 use Rattle.sets.specs.declared.answers.Counted.{Counted}
-use Rattle.two_sets.specs.Operations.{joined}
+use Rattle.operations.specs.Operations.{joined}
 use Rattle.sets.specs.Questions.{bothQuestions}
-use Rattle.two_sets.specs.declared.operation.Operation.{Operation}
+use Rattle.operations.specs.declared.operation.Operation.{Operation}
 
 -- how many members two joined sets have
 abbrev pub jointOnes : Operation → Members → Members → ℕ

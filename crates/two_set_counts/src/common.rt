@@ -1,4 +1,4 @@
-use two_sets::Operation;
+use operations::Operation;
 use word_bits::count_ones;
 ghost use mathlib.Core.Path.{_≡_};
 ghost use Prim.Native.Nat.{ℕ, _*_, _≤_};
@@ -6,7 +6,7 @@ ghost use lib.ListN.{length, getD};
 ghost use Rattle.word_bits.specs.Counts.{count};
 ghost use Rattle.word_bits.specs.Digits.{row};
 ghost use Rattle.sets.specs.Members.{bitOf};
-ghost use Rattle.two_sets.specs.Operations.{joined, maskedJoin};
+ghost use Rattle.operations.specs.Operations.{joined, maskedJoin};
 
 // How many bits of the words 0..end are set, once joined by the masks of an operation: one loop with no branch serves the four.
 fn ones_joined(

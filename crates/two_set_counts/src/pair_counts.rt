@@ -1,11 +1,11 @@
 use crate::common::ones_common;
 use crate::rests::ones_beyond;
 use blocks::lesser;
+use operations::Operation;
 use sets::Counted;
 use sets::FixedBitSet;
 use sets::blocks_of;
 use sets::check_both;
-use two_sets::Operation;
 ghost use mathlib.Core.Path.{_≡_};
 ghost use Rattle.two_set_counts.specs.Helpers.{jointCountRule};
 ghost use Rattle.two_set_counts.specs.Rules.{unionCountRule, intersectionCountRule, differenceCountRule, symmetricDifferenceCountRule};

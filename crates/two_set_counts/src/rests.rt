@@ -1,7 +1,7 @@
 use blocks::lesser;
+use operations::Operation;
+use range_counts::count_ones;
 use sets::FixedBitSet;
-use tests::count_ones;
-use two_sets::Operation;
 ghost use mathlib.Core.Path.{_≡_};
 ghost use Rattle.sets.specs.Members.{read};
 ghost use Rattle.sets.specs.Questions.{questions};

@@ -1,4 +1,2 @@
-pub mod WordJoins
-pub mod BlockJoins
 pub mod MemberJoins
 pub mod SetJoins

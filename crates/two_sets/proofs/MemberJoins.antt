@@ -19,10 +19,10 @@ use Rattle.sets.proofs.ReadLaws.{read-digit, read-above}
 use Rattle.sets.proofs.WordLaws.{words-hold}
 use Rattle.sets.proofs.WriteLaws.{write-is}
 use Rattle.two_sets.specs.Combined.{combined}
-use Rattle.two_sets.specs.Operations.{joined, joinedWord, padded}
-use Rattle.two_sets.specs.declared.operation.Operation.{Operation}
-use Rattle.two_sets.proofs.BlockJoins.{padded-in, padded-out}
-use Rattle.two_sets.proofs.WordJoins.{joined-digit, joined-lt}
+use Rattle.operations.specs.Operations.{joined, joinedWord, padded}
+use Rattle.operations.specs.declared.operation.Operation.{Operation}
+use Rattle.operations.proofs.BlockJoins.{padded-in, padded-out}
+use Rattle.operations.proofs.WordJoins.{joined-digit, joined-lt}
 
 -- the digits of a set's word, 0 past its words, are its members
 pub padded-digit : (a : FixedBitSet) (ws : List ℕ) → Valid a ws → (k j : ℕ) → j < 64

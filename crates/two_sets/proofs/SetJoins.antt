@@ -11,9 +11,9 @@ use Rattle.masks.specs.Ranges.{covers}
 use Rattle.masks.proofs.RangeLaws.{covers-yes, covers-above}
 use Rattle.blocks.specs.Sweeps.{swept}
 use Rattle.blocks.proofs.BlockLaws.{length-swept, swept-in, swept-out, swept-is}
-use Rattle.two_sets.specs.Operations.{joinedWord, padded}
-use Rattle.two_sets.specs.declared.operation.Operation.{Operation}
-use Rattle.two_sets.proofs.BlockJoins.{padded-in, padded-out, three-sweeps}
+use Rattle.operations.specs.Operations.{joinedWord, padded}
+use Rattle.operations.specs.declared.operation.Operation.{Operation}
+use Rattle.operations.proofs.BlockJoins.{padded-in, padded-out, three-sweeps}
 
 module _ (op : Operation) (blocks others total : ℕ) (ws vs : List ℕ) where
   -- word k of the result

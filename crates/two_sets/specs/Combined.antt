@@ -1,9 +1,9 @@
 -- What the operations on two sets leave, position by position.
 use Prim.Native.Nat.{ℕ, min, max}
 use Rattle.sets.specs.Members.{Members}
-use Rattle.two_sets.specs.Operations.{joined}
-use Rattle.two_sets.specs.declared.operation.Operation.{Operation}
-use Rattle.two_sets.specs.declared.operation.Operation.the-variants.{Union, Intersection, Difference, SymmetricDifference}
+use Rattle.operations.specs.Operations.{joined}
+use Rattle.operations.specs.declared.operation.Operation.{Operation}
+use Rattle.operations.specs.declared.operation.Operation.the-variants.{Union, Intersection, Difference, SymmetricDifference}
 
 -- n bits, each joined from those of two sets
 unfoldable pub combined : Operation → ℕ → Members → Members → Members

@@ -1,9 +1,9 @@
-use crate::joins::join_common;
-use crate::joins::join_first_alone;
-use crate::joins::join_second_alone;
-use crate::operation::Operation;
 use blocks::larger;
 use blocks::lesser;
+use operations::Operation;
+use operations::join_common;
+use operations::join_first_alone;
+use operations::join_second_alone;
 use sets::Edited;
 use sets::FixedBitSet;
 use sets::ask_new;
@@ -16,7 +16,7 @@ ghost use Rattle.blocks.specs.Sweeps.{swept};
 ghost use Rattle.sets.specs.Members.{read};
 ghost use Rattle.sets.specs.Outcomes.{outcome};
 ghost use Rattle.sets.specs.Questions.{joinQuestions};
-ghost use Rattle.two_sets.specs.Operations.{joinedWord, padded};
+ghost use Rattle.operations.specs.Operations.{joinedWord, padded};
 ghost use Rattle.two_sets.specs.Combined.{growing, keeping};
 ghost use Rattle.two_sets.specs.Rules.{growingWith, keepingWith, unionWithRule, symmetricDifferenceWithRule, intersectWithRule, differenceWithRule};
 

@@ -1,9 +1,9 @@
 use crate::in_place::ask_join;
 use crate::in_place::join_in_place;
-use crate::operation::Operation;
 use blocks::copy_blocks;
 use blocks::larger;
 use blocks::lesser;
+use operations::Operation;
 use sets::Edited;
 use sets::FixedBitSet;
 use sets::blocks_of;

@@ -1,9 +1,8 @@
-// Steps of the walks, with the records by value.
+// Steps of the walks of one part, with the record by value, and a step of two parts that asks nothing. The rules of every step are here.
 mod answers;
 mod one_set;
 mod pairs;
 mod rows;
-mod two_parts;
 
 pub use answers::Stepped;
 pub use answers::SteppedPair;
@@ -17,7 +16,3 @@ pub use pairs::intersection_next;
 pub use pairs::intersection_next_back;
 pub use rows::RowStep;
 pub use rows::step_rows;
-pub use two_parts::symmetric_difference_next;
-pub use two_parts::symmetric_difference_next_back;
-pub use two_parts::union_next;
-pub use two_parts::union_next_back;

@@ -1,7 +1,7 @@
 use crate::walk::Walk;
+use range_counts::count_ones;
 use sets::Counted;
 use sets::FixedBitSet;
-use tests::count_ones;
 use two_set_counts::difference_count;
 use two_set_counts::intersection_count;
 use two_set_counts::symmetric_difference_count;

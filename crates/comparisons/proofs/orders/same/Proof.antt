@@ -1,7 +1,7 @@
 -- `comparisons::orders::same` meets its contract. Assumes nothing.
 use denote.Ref.{now}
-use Rattle.two_sets.specs.declared.operation.Operation.the-variants.{SymmetricDifference}
-use Rattle.two_sets.proofs.BlockJoins.{Words}
+use Rattle.operations.specs.declared.operation.Operation.the-variants.{SymmetricDifference}
+use Rattle.operations.proofs.BlockJoins.{Words}
 use Rattle.comparisons.proofs.SearchLaws.{same-common, searched}
 use Rattle.comparisons.proofs.EqualLaws.{equal-no, equal-is}
 use borrow.Author.Needs.{needs}

@@ -1,6 +1,6 @@
 -- `comparisons::orders::words_order` meets its contract. Assumes nothing.
 use denote.Ref.{now}
-use Rattle.two_sets.proofs.BlockJoins.{Words}
+use Rattle.operations.proofs.BlockJoins.{Words}
 use Rattle.comparisons.proofs.OrderLaws.{none-differ, word-below, word-above}
 use borrow.Author.Needs.{needs}
 use Rattle.comparisons.proofs.orders.words_order.Statement.{statement}

@@ -1,7 +1,7 @@
 -- `comparisons::relations::disjoint_by_words` meets its contract. Assumes nothing.
 use denote.Ref.{now}
-use Rattle.two_sets.specs.declared.operation.Operation.the-variants.{Intersection}
-use Rattle.two_sets.proofs.BlockJoins.{Words}
+use Rattle.operations.specs.declared.operation.Operation.the-variants.{Intersection}
+use Rattle.operations.proofs.BlockJoins.{Words}
 use Rattle.comparisons.proofs.RelationLaws.{disjoint-is}
 use Rattle.comparisons.proofs.SearchLaws.{searched}
 use borrow.Author.Needs.{needs}

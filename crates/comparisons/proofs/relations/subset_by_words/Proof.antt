@@ -4,8 +4,8 @@ use mathlib.Core.Bool.{not}
 use denote.Ref.{now}
 use Rattle.sets.specs.Members.{wordsOf}
 use Rattle.sets.specs.declared.answers.Told.{Told}
-use Rattle.two_sets.specs.declared.operation.Operation.the-variants.{Difference}
-use Rattle.two_sets.proofs.BlockJoins.{Words}
+use Rattle.operations.specs.declared.operation.Operation.the-variants.{Difference}
+use Rattle.operations.proofs.BlockJoins.{Words}
 use Rattle.comparisons.proofs.RelationLaws.{subset-no, subset-yes, subset-rest, any-accepted}
 use Rattle.comparisons.proofs.SearchLaws.{Searched, searched}
 use borrow.Author.Needs.{needs}

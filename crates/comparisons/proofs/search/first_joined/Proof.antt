@@ -4,7 +4,7 @@ use Prim.Native.Nat.{ℕ, _≤_, _<_, _-_}
 use denote.Ref.{now}
 use lib.ListN.{getD}
 use Rattle.tests.proofs.ScanLaws.{more}
-use Rattle.two_sets.specs.Operations.{maskedJoin}
+use Rattle.operations.specs.Operations.{maskedJoin}
 use borrow.Author.Needs.{needs}
 use native.Mathlib.Omega.{arith}
 use Rattle.comparisons.proofs.search.first_joined.Statement.{statement}

@@ -1,6 +1,6 @@
 -- `two_set_counts::common::ones_common` meets its contract. Assumes nothing.
 use denote.Ref.{now}
-use Rattle.two_sets.proofs.BlockJoins.{Words}
+use Rattle.operations.proofs.BlockJoins.{Words}
 use Rattle.two_set_counts.proofs.WordRows.{row-by}
 use borrow.Author.Needs.{needs}
 use Rattle.two_set_counts.proofs.common.ones_common.Statement.{statement}

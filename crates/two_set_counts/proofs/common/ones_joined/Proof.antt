@@ -7,7 +7,7 @@ use lib.ListN.{getD}
 use Rattle.word_bits.specs.Counts.{count}
 use Rattle.word_bits.specs.Digits.{digit, row}
 use Rattle.word_bits.proofs.Ones.{count-le, row-none, row-more}
-use Rattle.two_sets.specs.Operations.{maskedJoin}
+use Rattle.operations.specs.Operations.{maskedJoin}
 use borrow.Author.Needs.{needs}
 use native.Mathlib.Omega.{arith}
 use Rattle.two_set_counts.proofs.common.ones_joined.Statement.{statement}

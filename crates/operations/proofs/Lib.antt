@@ -1,0 +1,2 @@
+pub mod WordJoins
+pub mod BlockJoins

@@ -1,0 +1,5 @@
+// Members and non-members of a range, counted.
+mod counts;
+
+pub use counts::count_ones;
+pub use counts::count_zeroes;

@@ -1,0 +1,2 @@
+pub mod BlockChanges
+pub mod RangeChanges
