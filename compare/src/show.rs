@@ -1,6 +1,6 @@
 //! Inputs and answers as text for a reader.
 
-use crate::cases::{Call, Case, Edit, History, Lent, Pair, Renumbering, WalkCase};
+use crate::cases::{Call, Case, Direction, Edit, History, Lent, Pair, Renumbering, WalkCase};
 
 /// Words in hexadecimal; of many words, those that are not 0.
 pub fn words(words: &[u64]) -> String {
@@ -48,8 +48,13 @@ pub fn case(case: &Case) -> String {
 }
 
 pub fn renumbering(case: &Renumbering) -> String {
+    let call = match case.direction {
+        Direction::Forward => "renumber",
+        Direction::Back => "renumber_back",
+        Direction::ForwardAndBack => "renumber_and_back",
+    };
     let buffers = format!("out: {}\n  again: {}", words(&case.out), words(&case.again));
-    format!("renumber {:?}, {} bits\n  pairs: {}\n  {}\n  {buffers}", case.direction, case.bits, pairs(&case.pairs), lent("set", &case.set))
+    format!("{call}, new length {}\n  pairs: {}\n  {}\n  {buffers}", case.bits, pairs(&case.pairs), lent("set", &case.set))
 }
 
 pub fn walk(case: &WalkCase) -> String {
