@@ -1,5 +1,5 @@
 /* C entry points of the bit-set engine. A set is its length and the 64-bit words that the caller lends.
-   A slice is a pointer and a number of words; the slices of a call that writes must not overlap.
+   A slice is a pointer and a number of words, or of pairs; the slices of a call that writes must not overlap.
    `number` is 0 for an accepted call and otherwise the number of the first question that was answered no (docs/SPECIFICATION.md says which). */
 #ifndef FBS_H
 #define FBS_H
@@ -29,6 +29,7 @@ typedef struct { uint64_t number; bool found; size_t at; FbsPart one; FbsPart tw
 typedef struct { uint64_t number; size_t count; FbsPart part; } FbsNextMany;
 typedef struct { uint64_t number; size_t count; FbsPart one; FbsPart two; } FbsNextManyPair;
 typedef struct { uint64_t number; FbsSet a; FbsSet b; size_t count; } FbsRan;
+typedef struct { uint64_t old_offset; uint64_t new_offset; } FbsPair; /* a position of the old set and its place in the new one */
 
 /* one word */
 size_t fbs_word_count_ones(uint64_t word);
@@ -98,6 +99,14 @@ FbsTold fbs_eq(FbsSet a, const uint64_t *words, size_t size, FbsSet b, const uin
 FbsCompared fbs_cmp(FbsSet a, const uint64_t *words, size_t size, FbsSet b, const uint64_t *other, size_t other_size);
 FbsLonger fbs_longer(FbsSet a, const uint64_t *words, size_t size, FbsSet b, const uint64_t *other, size_t other_size);
 uint64_t fbs_longer_number(FbsSet a, const uint64_t *words, size_t size, FbsSet b, const uint64_t *other, size_t other_size);
+
+/* a set moved to another layout: the set of bits bits in out has exactly the new offset of each member. Questions 1 to 3, 6 and 7, then of all pairs: 10, two share an old offset; 11, two share a new
+   offset; 4, a new offset is not below bits; then 12, a member has no pair. Refused: length 0, and every word as it was. */
+FbsEdited fbs_renumber(FbsSet set, const uint64_t *words, size_t size, const FbsPair *pairs, size_t pairs_size, size_t bits, uint64_t *out, size_t out_size);
+/* the same with every pair swapped */
+FbsEdited fbs_renumber_back(FbsSet set, const uint64_t *words, size_t size, const FbsPair *pairs, size_t pairs_size, size_t bits, uint64_t *out, size_t out_size);
+/* the first into out, then the second of that into again with the old length: does the old set stand again? number is that of the call that refused */
+FbsTold fbs_renumber_and_back(FbsSet set, const uint64_t *words, size_t size, const FbsPair *pairs, size_t pairs_size, size_t bits, uint64_t *out, size_t out_size, uint64_t *again, size_t again_size);
 
 /* walks: a part's record goes in and comes back */
 FbsPart fbs_first_part(FbsSet set);

@@ -1,6 +1,8 @@
 //! The engine's archive, through the raw C interface of the bindings.
 
-use crate::cases::{accepted, Answer, Call, Case, Edit, Engine, History, Lent, Outcome, Ran, Record, Step, Walk, WalkCase, Walked};
+use crate::cases::{
+    accepted, Answer, Call, Case, Direction, Edit, Engine, History, Lent, Outcome, Ran, Record, Renumbering, Step, Walk, WalkCase, Walked,
+};
 use crate::inputs::CALLERS;
 use lent_bit_sets::ffi::*;
 
@@ -207,6 +209,29 @@ fn next_many(walk: Walk, a: &Lent, b: &Lent, one: Record, two: Record, out: &mut
     }
 }
 
+/// The new set in `out`, with its count; a refused one has no bits, and its count none.
+fn renumbered(edited: FbsEdited, out: &[u64]) -> Outcome {
+    // SAFETY: the pointer is that of a slice, with its number of words.
+    let counted = unsafe { fbs_count_ones(edited.set, out.as_ptr(), out.len(), 0, edited.set.length) };
+    Outcome { number: edited.number, answer: Answer::Renumbered { length: edited.set.length, count: counted.count } }
+}
+
+pub fn renumber(case: &mut Renumbering) -> Outcome {
+    let pairs: Vec<FbsPair> = case.pairs.iter().map(|pair| FbsPair { old_offset: pair.old, new_offset: pair.new }).collect();
+    let (s, w, n) = (set(&case.set), case.set.words.as_ptr(), case.set.words.len());
+    let (p, m) = (pairs.as_ptr(), pairs.len());
+    let (o, k) = (case.out.as_mut_ptr(), case.out.len());
+    let (a, l) = (case.again.as_mut_ptr(), case.again.len());
+    // SAFETY: each pointer is that of a vector, with its number of words or pairs; the vectors do not overlap.
+    unsafe {
+        match case.direction {
+            Direction::Forward => renumbered(fbs_renumber(s, w, n, p, m, case.bits, o, k), &case.out),
+            Direction::Back => renumbered(fbs_renumber_back(s, w, n, p, m, case.bits, o, k), &case.out),
+            Direction::ForwardAndBack => told(fbs_renumber_and_back(s, w, n, p, m, case.bits, o, k, a, l)),
+        }
+    }
+}
+
 /// The answer of each word of a buffer after many steps: a position for each that is counted, none where the caller's word still stands. A word that was
 /// written and is not counted is shown as a position that no set has, so that it differs.
 pub fn of_buffer(out: &[u64], count: usize) -> impl Iterator<Item = Option<usize>> + '_ {
@@ -233,6 +258,10 @@ impl Engine for Archive {
             return Some(edit(call, &mut case.a, &case.b));
         }
         Some(of_words(case.call).unwrap_or_else(|| of_sets(case)))
+    }
+
+    fn renumber(&self, renumbering: &mut Renumbering) -> Option<Outcome> {
+        Some(renumber(renumbering))
     }
 
     fn walk(&self, case: &WalkCase) -> Option<Walked> {

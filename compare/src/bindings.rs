@@ -2,10 +2,10 @@
 
 use crate::archive::of_buffer;
 use crate::by_name::ask_by_name;
-use crate::cases::{accepted, Answer, Call, Case, Edit, Engine, History, Lent, Outcome, Ran, Step, Walk, WalkCase, Walked};
+use crate::cases::{accepted, Answer, Call, Case, Direction, Edit, Engine, History, Lent, Outcome, Ran, Renumbering, Step, Walk, WalkCase, Walked};
 use crate::inputs::CALLERS;
 use lent_bit_sets::history::{run_history, Walk as HistoryWalk};
-use lent_bit_sets::{masks, words, Difference, FixedBitSet, Intersection, Ones, Refusal, SymmetricDifference, Union, View, Zeroes};
+use lent_bit_sets::{masks, words, Difference, FixedBitSet, Intersection, Ones, Pair, Refusal, SymmetricDifference, Union, View, Zeroes};
 use std::cmp::Ordering;
 
 pub struct Bindings;
@@ -156,6 +156,13 @@ fn of_words(call: Call) -> Option<Outcome> {
     })
 }
 
+/// The new set, with its count.
+fn renumbered(made: Result<FixedBitSet<'_>, Refusal>) -> Outcome {
+    let number = number(&made);
+    let (length, count) = made.map_or((0, 0), |set| (set.len(), set.ones().count()));
+    Outcome { number, answer: Answer::Renumbered { length, count } }
+}
+
 impl Engine for Bindings {
     fn name(&self) -> &'static str {
         "bindings"
@@ -173,6 +180,17 @@ impl Engine for Bindings {
             call if call.reads_second() => of_two(call, view(&case.a)?, view(&case.b)?),
             call => of_words(call).or_else(|| of_one(call, view(&case.a)?)),
         }
+    }
+
+    fn renumber(&self, renumbering: &mut Renumbering) -> Option<Outcome> {
+        let Renumbering { direction, set, pairs, bits, out, again } = renumbering;
+        let (set, bits) = (view(set)?, *bits);
+        let pairs: Vec<Pair> = pairs.iter().map(|pair| Pair { old: pair.old, new: pair.new }).collect();
+        Some(match direction {
+            Direction::Forward => renumbered(set.renumber(&pairs, bits, out)),
+            Direction::Back => renumbered(set.renumber_back(&pairs, bits, out)),
+            Direction::ForwardAndBack => outcome(set.renumber_and_back(&pairs, bits, out, again), Answer::Yes),
+        })
     }
 
     fn walk(&self, case: &WalkCase) -> Option<Walked> {

@@ -288,6 +288,11 @@ pub enum Answer {
         last_mask: u64,
     },
     Word(u64),
+    /// A new set: its length, and how many members it has.
+    Renumbered {
+        length: usize,
+        count: usize,
+    },
 }
 
 /// The number, 0 for an accepted call, and the answer. The buffers after the call are in the case.
@@ -299,6 +304,54 @@ pub struct Outcome {
 
 pub fn accepted(answer: Answer) -> Outcome {
     Outcome { number: 0, answer }
+}
+
+/// A position of the old set and its place in the new one.
+#[derive(Clone, Copy, Debug, PartialEq, Eq)]
+pub struct Pair {
+    pub old: u64,
+    pub new: u64,
+}
+
+impl Pair {
+    pub fn swapped(self) -> Pair {
+        Pair { old: self.new, new: self.old }
+    }
+}
+
+#[derive(Clone, Copy, Debug, PartialEq, Eq)]
+pub enum Direction {
+    /// `renumber`.
+    Forward,
+    /// `renumber_back`: with every pair swapped.
+    Back,
+    /// `renumber_and_back`: into `out`, then back into `again` with the old length.
+    ForwardAndBack,
+}
+
+/// A set moved to another layout, into a buffer for a set of `bits` bits.
+#[derive(Clone, Debug, PartialEq, Eq)]
+pub struct Renumbering {
+    pub direction: Direction,
+    pub set: Lent,
+    pub pairs: Vec<Pair>,
+    pub bits: usize,
+    pub out: Vec<u64>,
+    pub again: Vec<u64>,
+}
+
+impl Renumbering {
+    /// The pairs from old to new as the call reads them.
+    pub fn sided(&self) -> Vec<Pair> {
+        match self.direction {
+            Direction::Back => swapped(&self.pairs),
+            _ => self.pairs.clone(),
+        }
+    }
+}
+
+pub fn swapped(pairs: &[Pair]) -> Vec<Pair> {
+    pairs.iter().map(|pair| pair.swapped()).collect()
 }
 
 /// A step of a walk, or many front steps in one call.
@@ -377,11 +430,13 @@ pub struct Ran {
 /// An answer of none in the buffer of a history.
 pub const NONE: u64 = u64::MAX;
 
-/// Something that answers calls, walks and histories. None where the input is outside what it can be asked.
+/// Something that answers calls, renumberings, walks and histories. None where the input is outside what it can be asked.
 pub trait Engine {
     fn name(&self) -> &'static str;
     /// Makes the call on the buffers of the case.
     fn call(&self, case: &mut Case) -> Option<Outcome>;
+    /// Makes the call on the buffers of the renumbering.
+    fn renumber(&self, renumbering: &mut Renumbering) -> Option<Outcome>;
     fn walk(&self, case: &WalkCase) -> Option<Walked>;
     /// Runs the history on its buffers.
     fn history(&self, history: &mut History) -> Option<Ran>;

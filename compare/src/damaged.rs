@@ -23,7 +23,7 @@ pub fn run(judge: &mut Judge) -> Result<(), Difference> {
 }
 
 /// A set of `length` bits, whole and with each kind of damage, and with several.
-fn sets(length: usize) -> Vec<Lent> {
+pub fn sets(length: usize) -> Vec<Lent> {
     let whole = set(length, 1, |p| p % 3 == 1);
     let own = words_of(length);
     let short = Lent { length, words: whole.words[..own - 1].to_vec() };

@@ -1,8 +1,9 @@
 //! Asks every engine the same and holds their answers against each other.
 
-use crate::cases::{Case, Engine, History, Outcome, Ran, WalkCase, Walked};
+use crate::cases::{Case, Engine, History, Outcome, Ran, Renumbering, WalkCase, Walked};
 use crate::show;
 use crate::shrink;
+use std::time::{Duration, Instant};
 
 /// Something that engines can be asked.
 pub trait Input: Clone {
@@ -56,6 +57,41 @@ impl Input for Case {
 
     fn show(&self) -> String {
         show::case(self)
+    }
+}
+
+#[derive(PartialEq, Eq)]
+pub struct SeenRenumbering {
+    pub outcome: Outcome,
+    pub buffers: [Vec<u64>; 3],
+}
+
+impl Seen for SeenRenumbering {
+    fn show(&self) -> String {
+        let [words, out, again] = &self.buffers;
+        format!("{:?}; words {}; out {}; again {}", self.outcome, show::words(words), show::words(out), show::words(again))
+    }
+}
+
+impl Input for Renumbering {
+    type Seen = SeenRenumbering;
+
+    fn ask(&self, engine: &dyn Engine) -> Option<SeenRenumbering> {
+        let mut renumbering = self.clone();
+        let outcome = engine.renumber(&mut renumbering)?;
+        Some(SeenRenumbering { outcome, buffers: [renumbering.set.words, renumbering.out, renumbering.again] })
+    }
+
+    fn answers(&self) -> u64 {
+        1
+    }
+
+    fn smaller(&self) -> Vec<Self> {
+        shrink::renumbering(self)
+    }
+
+    fn show(&self) -> String {
+        show::renumbering(self)
     }
 }
 
@@ -200,15 +236,17 @@ impl Judge {
         Ok(())
     }
 
-    /// Takes the first smaller input that still differs, until none does.
+    /// Takes the first smaller input that still differs, until none does, or the tries or the time are used up.
     fn reduced<I: Input>(&self, input: &I) -> Difference {
         const TRIES: usize = 50_000;
+        const TIME: Duration = Duration::from_secs(20);
+        let start = Instant::now();
         let mut least = input.clone();
         let mut tries = 0;
         'again: loop {
             for candidate in least.smaller() {
                 tries += 1;
-                if tries > TRIES {
+                if tries > TRIES || start.elapsed() > TIME {
                     break 'again;
                 }
                 if self.differing(&candidate).is_some() {

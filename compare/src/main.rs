@@ -24,6 +24,7 @@ mod model;
 mod prng;
 mod random;
 mod reference;
+mod renumberings;
 mod sample;
 mod show;
 mod shrink;
@@ -41,10 +42,23 @@ struct Extent {
     edges_every: usize,
     answers: u64,
     histories: u64,
+    renumberings: renumberings::Extent,
 }
 
-const QUICK: Extent = Extent { depth: exhaustive::Depth { mixed: 4, every: 11 }, edges_every: 13, answers: 3_000_000, histories: 50_000 };
-const FULL: Extent = Extent { depth: exhaustive::Depth { mixed: 5, every: 1 }, edges_every: 1, answers: 60_000_000, histories: 1_000_000 };
+const QUICK: Extent = Extent {
+    depth: exhaustive::Depth { mixed: 4, every: 11 },
+    edges_every: 13,
+    answers: 3_000_000,
+    histories: 50_000,
+    renumberings: renumberings::Extent { every: 4, random: 100_000 },
+};
+const FULL: Extent = Extent {
+    depth: exhaustive::Depth { mixed: 5, every: 1 },
+    edges_every: 1,
+    answers: 60_000_000,
+    histories: 1_000_000,
+    renumberings: renumberings::Extent { every: 1, random: 2_000_000 },
+};
 
 const DEFAULT_SEED: u64 = 1;
 
@@ -140,5 +154,8 @@ fn stages(judge: &mut Judge, extent: &Extent, seed: u64, start: Instant) -> Resu
     lists::histories(judge)?;
     histories::run(judge, &mut random, extent.histories)?;
     done(judge, "histories of lists, and random ones");
+    // Random numbers of their own, so that the cases before them are those that they were without them.
+    renumberings::run(judge, &mut Prng::new(seed), &extent.renumberings)?;
+    done(judge, "renumberings");
     Ok(())
 }

@@ -111,7 +111,7 @@ fn damage(random: &mut Prng, case: &mut Case) {
     }
 }
 
-fn damage_set(random: &mut Prng, set: &mut Lent) {
+pub fn damage_set(random: &mut Prng, set: &mut Lent) {
     match random.below(5) {
         0 => set.length = random.one_of(&HUGE),
         1 => {

@@ -3,11 +3,15 @@
 //! It can be asked what it has a meaning for: sets that pass questions 1 to 3, new lengths that pass 6 and 7, walks from their start.
 
 use crate::by_name::{ask_by_name, front_steps, steps};
-use crate::cases::{accepted, Answer, Call, Case, Edit, Engine, History, Lent, Outcome, Ran, Step, Walk, WalkCase, Walked, NONE};
+use crate::cases::{
+    accepted, swapped, Answer, Call, Case, Direction, Edit, Engine, History, Lent, Outcome, Pair, Ran, Renumbering, Step, Walk, WalkCase, Walked,
+    NONE,
+};
 use crate::inputs::{words_of, MOST};
 use fixedbitset::{FixedBitSet, Ones};
 use std::cell::Cell;
 use std::cmp::Ordering;
+use std::collections::{HashMap, HashSet};
 use std::panic::{self, AssertUnwindSafe};
 
 pub struct Reference;
@@ -144,6 +148,24 @@ fn third(case: &mut Case, join: fn(&FixedBitSet, &FixedBitSet) -> FixedBitSet) -
     Some(accepted(Answer::Length(set.len())))
 }
 
+/// A plain loop, since the Rust has no such call: each member is inserted at its new offset. None where the call is refused.
+fn renumbered(set: &FixedBitSet, pairs: &[Pair], bits: usize, out: &mut [u64]) -> Option<FixedBitSet> {
+    if !fits(bits, out.len()) || pairs.iter().any(|pair| pair.new >= bits as u64) {
+        return None;
+    }
+    let places: HashMap<u64, u64> = pairs.iter().map(|pair| (pair.old, pair.new)).collect();
+    let news: HashSet<u64> = pairs.iter().map(|pair| pair.new).collect();
+    if places.len() < pairs.len() || news.len() < pairs.len() {
+        return None;
+    }
+    let mut moved = FixedBitSet::with_capacity(bits);
+    for p in set.ones() {
+        moved.insert(*places.get(&(p as u64))? as usize);
+    }
+    store(&moved, out);
+    Some(moved)
+}
+
 /// An answer over a range; a panic is 5 with the answer of a refusal.
 fn ranged<T: Default>(ask: impl FnOnce() -> T, answer: fn(T) -> Answer) -> Outcome {
     let result = caught(ask);
@@ -206,6 +228,16 @@ impl Engine for Reference {
             call if call.reads_second() => of_two(call, &load(&case.a)?, &load(&case.b)?),
             call => of_one(call, &load(&case.a)?),
         }
+    }
+
+    fn renumber(&self, renumbering: &mut Renumbering) -> Option<Outcome> {
+        let set = load(&renumbering.set)?;
+        let moved = renumbered(&set, &renumbering.sided(), renumbering.bits, &mut renumbering.out)?;
+        if renumbering.direction == Direction::ForwardAndBack {
+            let back = renumbered(&moved, &swapped(&renumbering.pairs), set.len(), &mut renumbering.again)?;
+            return Some(accepted(Answer::Yes(back == set)));
+        }
+        Some(accepted(Answer::Renumbered { length: moved.len(), count: moved.count_ones(..) }))
     }
 
     fn walk(&self, case: &WalkCase) -> Option<Walked> {

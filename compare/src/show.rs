@@ -1,6 +1,6 @@
 //! Inputs and answers as text for a reader.
 
-use crate::cases::{Call, Case, Edit, History, Lent, WalkCase};
+use crate::cases::{Call, Case, Direction, Edit, History, Lent, Pair, Renumbering, WalkCase};
 
 /// Words in hexadecimal; of many words, those that are not 0.
 pub fn words(words: &[u64]) -> String {
@@ -18,11 +18,19 @@ pub fn numbers(numbers: &[u64]) -> String {
     format!("[{}]", shown.join(", "))
 }
 
-/// Positions in decimal; of many, the first.
-fn positions(list: &[u64]) -> String {
-    let shown: Vec<String> = list.iter().take(40).map(u64::to_string).collect();
+/// Each of a list; of many, the first.
+fn list<T>(list: &[T], each: impl Fn(&T) -> String) -> String {
+    let shown: Vec<String> = list.iter().take(40).map(each).collect();
     let more = if list.len() > shown.len() { format!(", .., {} in all", list.len()) } else { String::new() };
     format!("[{}{more}]", shown.join(", "))
+}
+
+fn positions(positions: &[u64]) -> String {
+    list(positions, u64::to_string)
+}
+
+fn pairs(pairs: &[Pair]) -> String {
+    list(pairs, |pair| format!("{} to {}", pair.old, pair.new))
 }
 
 pub fn answers(answers: &[Option<usize>]) -> String {
@@ -37,6 +45,16 @@ fn lent(name: &str, lent: &Lent) -> String {
 pub fn case(case: &Case) -> String {
     let second = if case.call == Call::InsertAll { format!("positions: {}", positions(&case.b.words)) } else { lent("b", &case.b) };
     format!("{:?}\n  {}\n  {second}\n  out: {}", case.call, lent("a", &case.a), words(&case.out))
+}
+
+pub fn renumbering(case: &Renumbering) -> String {
+    let call = match case.direction {
+        Direction::Forward => "renumber",
+        Direction::Back => "renumber_back",
+        Direction::ForwardAndBack => "renumber_and_back",
+    };
+    let buffers = format!("out: {}\n  again: {}", words(&case.out), words(&case.again));
+    format!("{call}, new length {}\n  pairs: {}\n  {}\n  {buffers}", case.bits, pairs(&case.pairs), lent("set", &case.set))
 }
 
 pub fn walk(case: &WalkCase) -> String {

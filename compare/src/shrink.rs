@@ -1,6 +1,6 @@
 //! Smaller inputs, for the smallest that still shows a difference: shorter lengths first, then fewer calls and steps, then simpler words and numbers.
 
-use crate::cases::{Call, Case, Edit, History, Lent, Record, Step, WalkCase};
+use crate::cases::{Call, Case, Edit, History, Lent, Pair, Record, Renumbering, Step, WalkCase};
 use crate::inputs::trim;
 
 /// Numbers below n, the boldest first.
@@ -65,6 +65,19 @@ fn simpler_words(words: &[u64]) -> Vec<Vec<u64>> {
         smaller.push(changed(k, word & 0xFFFF_FFFF));
         smaller.push(changed(k, word & (word - 1)));
         smaller.push(changed(k, word & !(1 << (63 - word.leading_zeros()))));
+    }
+    smaller
+}
+
+/// Words of which a part is 0, the largest parts first.
+fn bare(words: &[u64]) -> Vec<Vec<u64>> {
+    let mut smaller = Vec::new();
+    for (start, end) in parts(words.len(), unit(words.len())) {
+        if words[start..end].iter().any(|word| *word != 0) {
+            let mut other = words.to_vec();
+            other[start..end].fill(0);
+            smaller.push(other);
+        }
     }
     smaller
 }
@@ -175,6 +188,69 @@ pub fn case(case: &Case) -> Vec<Case> {
             smaller.push(Case { call, ..case.clone() });
         }
     }
+    smaller.retain(|candidate| candidate != case);
+    smaller
+}
+
+/// Without the pairs start..end, and without the members that they move.
+fn without_pairs(case: &Renumbering, start: usize, end: usize) -> Renumbering {
+    let mut smaller = case.clone();
+    let sided = case.sided();
+    smaller.pairs.drain(start..end);
+    for pair in &sided[start..end] {
+        put(&mut smaller.set, pair.old, false);
+    }
+    smaller
+}
+
+/// A pair with a lower offset on one of its sides; a member goes with its old one.
+fn lower_pairs(case: &Renumbering) -> Vec<Renumbering> {
+    let mut smaller = Vec::new();
+    let sided = case.sided();
+    for (k, pair) in case.pairs.iter().enumerate().take(8) {
+        for (old, new) in below(pair.old as usize)
+            .into_iter()
+            .map(|old| (old as u64, pair.new))
+            .chain(below(pair.new as usize).into_iter().map(|new| (pair.old, new as u64)))
+        {
+            let mut other = case.clone();
+            other.pairs[k] = Pair { old, new };
+            smaller.push(other.clone());
+            let (from, to) = (sided[k].old, other.sided()[k].old);
+            if from != to && put(&mut other.set, from, false) {
+                put(&mut other.set, to, true);
+                smaller.push(other);
+            }
+        }
+    }
+    smaller
+}
+
+/// Gives a position of the set's own words a state, and tells whether it was a member.
+fn put(set: &mut Lent, p: u64, member: bool) -> bool {
+    match set.words.get_mut((p / 64) as usize) {
+        Some(word) if p < set.length as u64 => {
+            let (was, bit) = (*word, 1 << (p % 64));
+            *word = if member { was | bit } else { was & !bit };
+            was & bit != 0
+        }
+        _ => false,
+    }
+}
+
+pub fn renumbering(case: &Renumbering) -> Vec<Renumbering> {
+    let (length, n) = (case.set.length, case.pairs.len());
+    let mut smaller: Vec<Renumbering> = Vec::new();
+    smaller.extend(bare(&case.set.words).into_iter().map(|words| Renumbering { set: Lent { length, words }, ..case.clone() }));
+    smaller.extend(bare(&case.out).into_iter().map(|out| Renumbering { out, ..case.clone() }));
+    smaller.extend(bare(&case.again).into_iter().map(|again| Renumbering { again, ..case.clone() }));
+    smaller.extend(parts(n, unit(n)).into_iter().map(|(start, end)| without_pairs(case, start, end)));
+    smaller.extend(shorter(&case.pairs, unit(n)).into_iter().map(|pairs| Renumbering { pairs, ..case.clone() }));
+    smaller.extend(lents(&case.set).into_iter().map(|set| Renumbering { set, ..case.clone() }));
+    smaller.extend(below(case.bits).into_iter().map(|bits| Renumbering { bits, ..case.clone() }));
+    smaller.extend(lower_pairs(case));
+    smaller.extend(simpler_words(&case.out).into_iter().map(|out| Renumbering { out, ..case.clone() }));
+    smaller.extend(simpler_words(&case.again).into_iter().map(|again| Renumbering { again, ..case.clone() }));
     smaller.retain(|candidate| candidate != case);
     smaller
 }

@@ -1,8 +1,8 @@
 //! The C interface as declared in bindings/c/fbs.h: the raw functions and records. tests/header.rs compares the two files.
 //!
-//! A slice is a pointer and a number of words. `number` is 0 for an accepted call and otherwise the number of the first question that was
+//! A slice is a pointer and a number of words, or of pairs. `number` is 0 for an accepted call and otherwise the number of the first question that was
 //! answered no. Every function asks its questions itself, so the only duties of a caller are those of the pointers: each is valid for as many
-//! words as the number beside it, and the words of a slice that is written overlap no other slice of the call.
+//! words or pairs as the number beside it, and the words of a slice that is written overlap no other slice of the call.
 
 /// A set: its length in bits. Its words are lent beside it.
 #[repr(C)]
@@ -145,6 +145,14 @@ pub struct FbsNextManyPair {
     pub two: FbsPart,
 }
 
+/// A position of the old set and its place in the new one.
+#[repr(C)]
+#[derive(Clone, Copy, Debug, PartialEq, Eq)]
+pub struct FbsPair {
+    pub old_offset: u64,
+    pub new_offset: u64,
+}
+
 /// Both sets after a history, and the count of its walk.
 #[repr(C)]
 #[derive(Clone, Copy, Debug, PartialEq, Eq)]
@@ -245,6 +253,39 @@ extern "C" {
     pub fn fbs_cmp(a: FbsSet, words: *const u64, size: usize, b: FbsSet, other: *const u64, other_size: usize) -> FbsCompared;
     pub fn fbs_longer(a: FbsSet, words: *const u64, size: usize, b: FbsSet, other: *const u64, other_size: usize) -> FbsLonger;
     pub fn fbs_longer_number(a: FbsSet, words: *const u64, size: usize, b: FbsSet, other: *const u64, other_size: usize) -> u64;
+    // a set moved to another layout by pairs of an old and a new offset, the same with every pair swapped, and both: does the old set stand again?
+    pub fn fbs_renumber(
+        set: FbsSet,
+        words: *const u64,
+        size: usize,
+        pairs: *const FbsPair,
+        pairs_size: usize,
+        bits: usize,
+        out: *mut u64,
+        out_size: usize,
+    ) -> FbsEdited;
+    pub fn fbs_renumber_back(
+        set: FbsSet,
+        words: *const u64,
+        size: usize,
+        pairs: *const FbsPair,
+        pairs_size: usize,
+        bits: usize,
+        out: *mut u64,
+        out_size: usize,
+    ) -> FbsEdited;
+    pub fn fbs_renumber_and_back(
+        set: FbsSet,
+        words: *const u64,
+        size: usize,
+        pairs: *const FbsPair,
+        pairs_size: usize,
+        bits: usize,
+        out: *mut u64,
+        out_size: usize,
+        again: *mut u64,
+        again_size: usize,
+    ) -> FbsTold;
     // walks: a part's record goes in and comes back
     pub fn fbs_first_part(set: FbsSet) -> FbsPart;
     pub fn fbs_ones_next(set: FbsSet, words: *const u64, size: usize, part: FbsPart) -> FbsStepped;

@@ -36,11 +36,13 @@ pub mod words;
 
 mod ranges;
 mod refusal;
+mod renumberings;
 mod set;
 mod view;
 mod walks;
 
 pub use refusal::Refusal;
+pub use renumberings::Pair;
 pub use set::FixedBitSet;
 pub use view::View;
 pub use walks::{Difference, Intersection, Ones, SymmetricDifference, Union, Zeroes};

@@ -13,7 +13,7 @@ pub enum Refusal {
     Words = 2,
     /// A bit from the length up is set in the set's words.
     StrayBits = 3,
-    /// The position is not below the length.
+    /// The position is not below the length; of a renumbering, a new offset is not below the new length.
     Position = 4,
     /// The range is inverted or ends above the length.
     Range = 5,
@@ -25,10 +25,16 @@ pub enum Refusal {
     Record = 8,
     /// The word has no bit.
     NoBit = 9,
+    /// Two pairs share an old offset.
+    SharedOld = 10,
+    /// Two pairs share a new offset.
+    SharedNew = 11,
+    /// A member has no pair.
+    NoPair = 12,
 }
 
 impl Refusal {
-    /// The specification's number, 1 to 9.
+    /// The specification's number, 1 to 12.
     ///
     /// ```
     /// assert_eq!(lent_bit_sets::Refusal::Range.number(), 5);
@@ -55,6 +61,9 @@ impl Refusal {
             7 => Refusal::Room,
             8 => Refusal::Record,
             9 => Refusal::NoBit,
+            10 => Refusal::SharedOld,
+            11 => Refusal::SharedNew,
+            12 => Refusal::NoPair,
             _ => return None,
         })
     }
@@ -72,6 +81,9 @@ impl fmt::Display for Refusal {
             Refusal::Room => "the buffer has too few words for the new length",
             Refusal::Record => "the record of the walk is not within its set",
             Refusal::NoBit => "the word has no bit",
+            Refusal::SharedOld => "two pairs share an old offset",
+            Refusal::SharedNew => "two pairs share a new offset",
+            Refusal::NoPair => "a member has no pair",
         })
     }
 }

@@ -119,6 +119,8 @@ macro_rules! of_both_types {
     };
 }
 
+pub(crate) use of_both_types;
+
 of_both_types! {
     /// The length in bits.
     pub fn len(self) -> usize {

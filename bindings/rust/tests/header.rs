@@ -88,6 +88,7 @@ fn every_kind_of_difference_is_seen() {
         ("size_t from, size_t to", "size_t to, size_t from"),
         ("fbs_low_mask(size_t r)", "fbs_low_mask(uint64_t r)"),
         ("const uint64_t *blocks", "uint64_t *blocks"),
+        ("const FbsPair *pairs", "const uint64_t *pairs"),
         ("FbsTold fbs_eq(", "FbsCounted fbs_eq("),
         ("FbsPart fbs_first_part(FbsSet set);", ""),
         ("bool found; size_t at; } FbsFound", "size_t at; bool found; } FbsFound"),

@@ -6,12 +6,12 @@ use std::ops::Bound;
 
 #[test]
 fn every_refusal_has_its_number() {
-    for number in 1..=9 {
+    for number in 1..=12 {
         let refusal = Refusal::from_number(number).unwrap();
         assert_eq!(refusal.number(), number);
         assert!(!refusal.to_string().is_empty());
     }
-    assert_eq!((Refusal::from_number(0), Refusal::from_number(10)), (None, None));
+    assert_eq!((Refusal::from_number(0), Refusal::from_number(13)), (None, None));
 }
 
 #[test]

@@ -91,6 +91,42 @@ pub fn lists(bench: &mut Bench, random: &mut Prng, length: usize) {
     });
 }
 
+/// The same as a loop of the Rust: what `renumber` asks of the pairs, by two sets of offsets, then every member inserted at its new offset.
+fn renumbered(set: &Rust, pairs: &[FbsPair], olds: &mut Rust, news: &mut Rust, out: &mut Rust) -> usize {
+    olds.clear();
+    news.clear();
+    if pairs.iter().any(|pair| olds.put(pair.old_offset as usize)) {
+        return 10;
+    }
+    if pairs.iter().any(|pair| news.put(pair.new_offset as usize)) {
+        return 11;
+    }
+    if !set.is_subset(olds) {
+        return 12;
+    }
+    out.clear();
+    for pair in pairs.iter().filter(|pair| set.contains(pair.old_offset as usize)) {
+        out.insert(pair.new_offset as usize);
+    }
+    0
+}
+
+/// A full set, with a pair for each of its members in random order.
+pub fn renumberings(bench: &mut Bench, random: &mut Prng, length: usize) {
+    let full = Twice::new(length, |_| true);
+    let mut news: Vec<u64> = (0..length as u64).collect();
+    random.shuffle(&mut news);
+    let mut pairs: Vec<FbsPair> = (0..).zip(news).map(|(old_offset, new_offset)| FbsPair { old_offset, new_offset }).collect();
+    random.shuffle(&mut pairs);
+    let (s, w, n) = full.raw();
+    let mut words = vec![0; full.words.len()];
+    let [mut olds, mut news, mut out] = [(); 3].map(|()| Rust::with_capacity(length));
+    // SAFETY: the pointers and the numbers of words and pairs are those of vectors that live as long, and nothing else reads or writes the last meanwhile.
+    let ours = || unsafe { again(1, || edited(fbs_renumber(s, w, n, pairs.as_ptr(), pairs.len(), length, words.as_mut_ptr(), words.len()))) };
+    let rust = || again(1, || renumbered(black_box(&full.rust), &pairs, &mut olds, &mut news, &mut out));
+    bench.row("renumber, a full set", length, length, ours, rust);
+}
+
 pub fn ranges(bench: &mut Bench, random: &mut Prng, length: usize) {
     for (name, start, end, times) in [("100..120, one word", 100, 120, SHORT), ("100..140, two words", 100, 140, SHORT), ("0..L", 0, length, WHOLE)] {
         let (mut set, _) = pair(random, length, 2);

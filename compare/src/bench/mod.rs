@@ -40,7 +40,7 @@ pub struct Bench {
 
 pub fn run(seed: u64) {
     let counts = counted::counts(seed);
-    println!("Least time of many runs in nanoseconds, and instructions; each of one call, or of one position of a list or a walk (seed {seed}).");
+    println!("Least time of many runs in nanoseconds, and instructions; each of one call, or of one position of a list or a walk, or of one pair (seed {seed}).");
     if counts.is_empty() {
         println!("No instructions: valgrind is not at hand, or could not run this program.");
     }
@@ -66,6 +66,9 @@ fn all(bench: &mut Bench, seed: u64) {
     for length in LENGTHS {
         // Random numbers of its own, so that the rows after it are those that they were without it.
         calls::lists(bench, &mut Prng::new(seed), length);
+    }
+    for length in LENGTHS {
+        calls::renumberings(bench, &mut Prng::new(seed), length);
     }
     for length in LENGTHS {
         calls::ranges(bench, &mut random, length);

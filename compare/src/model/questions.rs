@@ -1,7 +1,7 @@
 //! The questions before any work: 0 for yes, else the number.
 
-use super::members::{bit, words_of};
-use crate::cases::{Edit, Lent, Record};
+use super::members::{bit, has, words_of};
+use crate::cases::{Edit, Lent, Pair, Record};
 
 pub const MOST: u128 = 65_536;
 
@@ -61,6 +61,23 @@ pub fn new_length(length: u128, size: usize) -> u64 {
 /// 8.
 pub fn record(record: Record, length: usize) -> u64 {
     ask(record.low <= record.high && record.high <= length, 8)
+}
+
+/// 10 of the old offsets and 11 of the new ones: no two of them are equal.
+fn shared(sorted: &[u64], number: u64) -> u64 {
+    ask(sorted.windows(2).all(|two| two[0] != two[1]), number)
+}
+
+/// 10, 11 and 4 of all pairs, then 12 of the members.
+pub fn of_pairs(pairs: &[Pair], bits: usize, members: &[bool]) -> u64 {
+    let sorted = |side: fn(&Pair) -> u64| {
+        let mut offsets: Vec<u64> = pairs.iter().map(side).collect();
+        offsets.sort_unstable();
+        offsets
+    };
+    let (olds, news) = (sorted(|pair| pair.old), sorted(|pair| pair.new));
+    let paired = (0..members.len()).all(|p| !has(members, p) || olds.binary_search(&(p as u64)).is_ok());
+    first(&[shared(&olds, 10), shared(&news, 11), positions(&news, bits), ask(paired, 12)])
 }
 
 /// 4 to 7 of an edit of a set of `length` bits in `size` words, beside a set of `other` bits.
