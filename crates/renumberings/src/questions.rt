@@ -6,6 +6,7 @@ use crate::steps::Task;
 use crate::steps::at_least;
 use blocks::change_blocks;
 use comparisons::is_subset;
+use range_counts::count_ones;
 use sets::FixedBitSet;
 use sets::ask_new;
 use sets::check;
@@ -19,7 +20,7 @@ ghost use Rattle.sets.specs.Questions.{first, questions, newQuestions};
 ghost use Rattle.comparisons.specs.Rules.{isSubsetRule};
 ghost use Rattle.renumberings.specs.Pairs.{sided};
 ghost use Rattle.renumberings.specs.Rules.{pairsQuestions};
-ghost use Rattle.renumberings.specs.Passes.{Taken, cleared, shared, pairsNumber};
+ghost use Rattle.renumberings.specs.Passes.{Taken, cleared, allMarked, shared, pairsNumber};
 
 // Questions 1 to 3 of the old set, then 6 and 7 of the new one.
 pub(crate) fn ask_sets(set: FixedBitSet, words: &[u64], bits: usize, out: &[u64]) -> u64
@@ -37,6 +38,17 @@ fn clear_marks(marks: &mut [u64])
 {
     let all = marks.len();
     change_blocks(marks, 0, all, 0, 0);
+}
+
+// Whether 1,024 words of marks have so many.
+fn all_marked(marks: &[u64], count: usize) -> bool
+    ensures { λ r. ⌜ r ≡ allMarked (now (marks .entry)) count ⌝ }
+{
+    if marks.len() != 1024 {
+        return false;
+    }
+    let counted = count_ones(FixedBitSet::new(65536), marks, 0, 65536);
+    counted.count == count
 }
 
 // Whether two pairs share an old offset. Where none do, the marks are the old offsets below 65,536.
