@@ -59,6 +59,10 @@ pub(crate) fn shares(pairs: &[Pair], back: bool, olds: &[u64], marks: &mut [u64]
     if pass(pairs, back, Task::Mark, olds, marks) {
         return true;
     }
+    // As many marks as pairs: no offset is from 65,536 up.
+    if all_marked(marks, pairs.len()) {
+        return false;
+    }
     repeats_above(pairs, back)
 }
 
