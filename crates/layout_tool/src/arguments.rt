@@ -1,8 +1,5 @@
-use blocks::lesser;
 use check::same;
-ghost use Prim.Native.Nat.{_-_};
-ghost use mathlib.Core.Path.{_≡_};
-ghost use lib.ListN.{take, drop};
+use tool_files::part;
 
 // The words of the command line, each with a zero byte behind it. An option starts with `-` and is longer than that; none is behind `--`.
 pub(crate) struct Word {
@@ -10,17 +7,6 @@ pub(crate) struct Word {
     pub next: usize,
     pub option: bool,
     pub ended: bool,
-}
-
-// The bytes start..end of a text, as far as it has them.
-pub(crate) fn part(text: &[u8], start: usize, end: usize) -> &[u8]
-    ensures { λ r. ⌜ now r ≡ take (end - start) (drop start (now (text .entry))) ⌝ }
-{
-    let to = lesser(end, text.len());
-    if to < start {
-        return &text[..0];
-    }
-    &text[start..to]
 }
 
 fn word_end(text: &[u8], start: usize) -> usize {

@@ -1,16 +1,16 @@
 use crate::arguments::operand;
 use crate::comparing::compare;
-use crate::files::load;
 use crate::help::command_help;
 use crate::help::general_help;
 use crate::help::write_help;
 use crate::listing::write_job;
-use crate::messages::tell;
 use crate::options::Options;
 use crate::options::options_of;
 use crate::options::unknown_option;
 use check::same;
 use listings::Job;
+use tool_files::load;
+use tool_files::tell;
 use whole_walks::Walk;
 
 fn job_of(walk: Walk, options: Options) -> Job {

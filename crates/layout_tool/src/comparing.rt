@@ -1,13 +1,13 @@
 use crate::arguments::operand;
-use crate::arguments::part;
-use crate::files::load;
 use crate::listing::write_job;
-use crate::messages::incomplete;
 use crate::options::Options;
-use crate::streams::write_whole;
 use listing_pieces::same_offsets;
 use listings::Job;
 use std::num::wrapping_add_u64;
+use tool_files::incomplete;
+use tool_files::load;
+use tool_files::part;
+use tool_files::write_whole;
 use verdict_lines::append_tables;
 use whole_walks::Walk;
 

@@ -1,7 +1,7 @@
-use crate::messages::incomplete;
-use crate::messages::tell;
-use crate::streams::write_whole;
 use check::same;
+use tool_files::incomplete;
+use tool_files::tell;
+use tool_files::write_whole;
 
 // Writes a text. 2 where it could not be written whole.
 pub(crate) fn write_help(text: &[u8], out: i32, err: i32) -> usize {

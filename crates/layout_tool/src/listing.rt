@@ -1,12 +1,12 @@
-use crate::arguments::part;
-use crate::messages::incomplete;
-use crate::messages::tell;
-use crate::streams::write_whole;
 use byte_texts::append_name;
 use listing_pieces::first_page;
 use listing_pieces::next_piece;
 use listings::Job;
 use listings::Stage;
+use tool_files::incomplete;
+use tool_files::part;
+use tool_files::tell;
+use tool_files::write_whole;
 
 fn is_over(stage: Stage) -> bool {
     match stage {

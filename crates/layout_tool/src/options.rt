@@ -1,6 +1,6 @@
-use crate::arguments::part;
 use crate::arguments::word_at;
 use check::same;
+use tool_files::part;
 
 // What the options ask for, how many words are no options, and how many of those are `-`.
 pub(crate) struct Options {

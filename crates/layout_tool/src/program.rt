@@ -1,9 +1,9 @@
-use crate::arguments::part;
 use crate::commands::run;
-use crate::messages::tell;
-use crate::messages::tell_error;
-use crate::streams::write_whole;
 use byte_texts::append;
+use tool_files::part;
+use tool_files::tell;
+use tool_files::tell_error;
+use tool_files::write_whole;
 
 // The words of the command line, each with a zero byte behind it. Gives where they end, or the buffer's length where they do not fit.
 fn gather(arguments: &mut [u8]) -> usize {

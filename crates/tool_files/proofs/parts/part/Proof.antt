@@ -1,4 +1,4 @@
--- `layout_tool::arguments::part` meets its contract. Assumes nothing.
+-- `tool_files::parts::part` meets its contract. Assumes nothing.
 use mathlib.Core.Path.{_∙_, ap}
 use mathlib.Core.List.{List}
 use native.Mathlib.Omega.{arith}
@@ -6,9 +6,9 @@ use borrow.Author.Needs.{needs}
 use denote.Ref.{now}
 use Prim.Native.Nat.{ℕ, _-_}
 use lib.ListN.{take, drop}
-use Rattle.layout_tool.proofs.PartLaws.{no-part, same-part}
-use Rattle.layout_tool.proofs.arguments.part.Statement.{statement}
-use Rattle.layout_tool.proofs.arguments.part.Tie as tie
+use Rattle.tool_files.proofs.PartLaws.{no-part, same-part}
+use Rattle.tool_files.proofs.parts.part.Statement.{statement}
+use Rattle.tool_files.proofs.parts.part.Tie as tie
 
 returns : tie.Need-returns
 returns c =

@@ -1,5 +1,5 @@
 // Writes all of the bytes: a short write goes on with the rest, and one that a signal broke off is made again. False at the first write that fails.
-pub(crate) fn write_whole(fd: i32, bytes: &[u8]) -> bool {
+pub fn write_whole(fd: i32, bytes: &[u8]) -> bool {
     let mut done: usize = 0;
     let mut signals: usize = 1000;
     while done < bytes.len() {

@@ -9,7 +9,7 @@ use Rattle.offset_files.specs.Holds.{HoldsFile, HoldsText}
 use Rattle.offset_files.specs.declared.reading.Reading.{Reading}
 use Rattle.text_lines.specs.Texts as Texts
 use Rattle.text_lines.proofs.PieceLaws.{pieces}
-use Rattle.layout_tool.specs.Loading.{Took, ReadSome, ReadWhole, Usable}
+use Rattle.tool_files.specs.Loading.{Took, ReadSome, ReadWhole, Usable}
 
 module _ {name : List ℕ} {r : Reading} {line words table report : List ℕ} where
   -- nothing is read yet

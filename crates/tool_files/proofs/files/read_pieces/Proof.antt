@@ -1,12 +1,12 @@
--- `layout_tool::files::read_pieces` meets its contract, is safe and ends: bytes or signals are fewer after each turn. Assumes nothing.
+-- `tool_files::files::read_pieces` meets its contract, is safe and ends: bytes or signals are fewer after each turn. Assumes nothing.
 use mathlib.Core.Bool.{false≢true}
 use mathlib.Core.Path.{refl}
 use Prim.Native.Nat.{_+_}
 use native.Mathlib.Omega.{arith}
 use borrow.Author.Needs.{needs}
-use Rattle.layout_tool.proofs.LoadLaws.{Loading, read-none, read-more}
-use Rattle.layout_tool.proofs.files.read_pieces.Statement.{statement}
-use Rattle.layout_tool.proofs.files.read_pieces.Tie as tie
+use Rattle.tool_files.proofs.LoadLaws.{Loading, read-none, read-more}
+use Rattle.tool_files.proofs.files.read_pieces.Statement.{statement}
+use Rattle.tool_files.proofs.files.read_pieces.Tie as tie
 
 abbrev Inv-loop : tie.InvT-loop
 Inv-loop fd name line₀ words₀ table₀ report₀ now₀ left₀ signals₀ line words table report now left signals =

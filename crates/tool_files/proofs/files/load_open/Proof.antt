@@ -1,10 +1,10 @@
--- `layout_tool::files::load_open` meets its contract: a file that may be used is a whole text with no bad line. Assumes nothing.
+-- `tool_files::files::load_open` meets its contract: a file that may be used is a whole text with no bad line. Assumes nothing.
 use mathlib.Core.Bool.{false≢true}
 use native.Mathlib.Omega.{arith}
 use borrow.Author.Needs.{needs}
-use Rattle.layout_tool.proofs.LoadLaws.{read-end, usable, not-not}
-use Rattle.layout_tool.proofs.files.load_open.Statement.{statement}
-use Rattle.layout_tool.proofs.files.load_open.Tie as tie
+use Rattle.tool_files.proofs.LoadLaws.{read-end, usable, not-not}
+use Rattle.tool_files.proofs.files.load_open.Statement.{statement}
+use Rattle.tool_files.proofs.files.load_open.Tie as tie
 
 returns-5 : tie.Need-returns-5
 returns-5 c e =

@@ -1,7 +1,7 @@
-use crate::arguments::part;
 use crate::messages::tell;
 use crate::messages::tell_error;
 use crate::messages::tell_number;
+use crate::parts::part;
 use crate::streams::write_whole;
 use byte_texts::append_name;
 use check::same;
@@ -14,7 +14,7 @@ ghost use mathlib.Core.Bool.{true};
 ghost use Prim.Native.Nat.{_≤_};
 ghost use lib.ListN.{length};
 ghost use Rattle.byte_texts.specs.Texts.{shownName};
-ghost use Rattle.layout_tool.specs.Loading.{Took, ReadSome, Usable};
+ghost use Rattle.tool_files.specs.Loading.{Took, ReadSome, Usable};
 
 // What a read left: the reading, how many bytes came, and the error where it failed, 0 where it did not.
 struct Piece {
@@ -183,13 +183,7 @@ fn load_open(
 }
 
 // The offsets of a file as the members of a set of 65,536 bits; `-` is the standard input. False where the file may not be used: it was said why.
-pub(crate) fn load(
-    name: &[u8],
-    allow_empty: bool,
-    err: i32,
-    words: &mut [u64],
-    table: &mut [u64],
-) -> bool
+pub fn load(name: &[u8], allow_empty: bool, err: i32, words: &mut [u64], table: &mut [u64]) -> bool
     ensures { λ r. ⌜ (r ≡ true → Usable (shownName (now (name .entry))) (now (words .exit))) ⌝ }
 {
     let mut space = [0u8; 64];

@@ -1,10 +1,10 @@
--- `layout_tool::streams::write_whole` is safe and ends: bytes or signals are fewer after each turn. Assumes nothing.
+-- `tool_files::streams::write_whole` is safe and ends: bytes or signals are fewer after each turn. Assumes nothing.
 use native.Mathlib.Omega.{arith}
 use borrow.Author.Needs.{needs}
 use Prim.Native.Nat.{_+_, _-_}
 use lib.ListN.{length}
-use Rattle.layout_tool.proofs.streams.write_whole.Statement.{statement}
-use Rattle.layout_tool.proofs.streams.write_whole.Tie as tie
+use Rattle.tool_files.proofs.streams.write_whole.Statement.{statement}
+use Rattle.tool_files.proofs.streams.write_whole.Tie as tie
 
 abbrev Inv-loop : tie.InvT-loop
 Inv-loop fd bytes done₀ signals₀ done signals = Unit {0}

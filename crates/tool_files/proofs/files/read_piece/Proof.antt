@@ -1,7 +1,7 @@
--- `layout_tool::files::read_piece` meets its contract: what was read is a piece more. Assumes nothing.
+-- `tool_files::files::read_piece` meets its contract: what was read is a piece more. Assumes nothing.
 use borrow.Author.Needs.{needs}
-use Rattle.layout_tool.proofs.files.read_piece.Statement.{statement}
-use Rattle.layout_tool.proofs.files.read_piece.Tie as tie
+use Rattle.tool_files.proofs.files.read_piece.Statement.{statement}
+use Rattle.tool_files.proofs.files.read_piece.Tie as tie
 
 returns : tie.Need-returns
 returns c = record { bytes = _; holds = c .before .before .before .before .before .before .before .before .take .ensures }

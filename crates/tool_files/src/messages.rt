@@ -1,11 +1,11 @@
-use crate::arguments::part;
+use crate::parts::part;
 use crate::streams::write_whole;
 use byte_texts::append;
 use byte_texts::append_decimal;
 use byte_texts::append_name;
 
 // One line: a text, a name as it is shown, and a text. False where it could not be written.
-pub(crate) fn tell(err: i32, before: &[u8], name: &[u8], after: &[u8]) -> bool {
+pub fn tell(err: i32, before: &[u8], name: &[u8], after: &[u8]) -> bool {
     let mut line = [0u8; 256];
     let named = append(&mut line, 0, before);
     let said = append_name(&mut line, named, name);
@@ -68,7 +68,7 @@ fn append_reason(out: &mut [u8], at: usize, error: i32) -> usize {
 }
 
 // One line: a text, a name, and why a call failed.
-pub(crate) fn tell_error(err: i32, before: &[u8], name: &[u8], after: &[u8], error: i32) -> bool {
+pub fn tell_error(err: i32, before: &[u8], name: &[u8], after: &[u8], error: i32) -> bool {
     let mut line = [0u8; 256];
     let named = append(&mut line, 0, before);
     let said = append_name(&mut line, named, name);
@@ -79,7 +79,7 @@ pub(crate) fn tell_error(err: i32, before: &[u8], name: &[u8], after: &[u8], err
 }
 
 // After a write that failed nothing more is written but this.
-pub(crate) fn incomplete(err: i32, error: i32) {
+pub fn incomplete(err: i32, error: i32) {
     let _told = tell_error(
         err,
         b"INCOMPLETE: not all was written to the standard output",

@@ -1,11 +1,11 @@
--- `layout_tool::files::load` meets its contract. Assumes nothing.
+-- `tool_files::files::load` meets its contract. Assumes nothing.
 use mathlib.Core.Bool.{false≢true}
 use native.Mathlib.Omega.{arith}
 use borrow.Author.Needs.{needs}
-use Rattle.layout_tool.proofs.LoadLaws.{renamed}
-use Rattle.layout_tool.proofs.NameLaws.{shown-is}
-use Rattle.layout_tool.proofs.files.load.Statement.{statement}
-use Rattle.layout_tool.proofs.files.load.Tie as tie
+use Rattle.tool_files.proofs.LoadLaws.{renamed}
+use Rattle.tool_files.proofs.NameLaws.{shown-is}
+use Rattle.tool_files.proofs.files.load.Statement.{statement}
+use Rattle.tool_files.proofs.files.load.Tie as tie
 
 returns : tie.Need-returns
 returns c e =
