@@ -1,7 +1,8 @@
 use check::same;
 use tool_files::part;
 
-// The words of the command line, each with a zero byte behind it. An option starts with `-` and is longer than that; none is behind `--`.
+// The words of the command line, each with a zero byte behind it. An option starts with `-` and is longer than that; none is behind `--`. The word behind
+// `--length` belongs to it.
 pub(crate) struct Word {
     pub end: usize,
     pub next: usize,
@@ -27,21 +28,40 @@ fn is_option(word: &[u8]) -> bool {
     word[0] == b'-'
 }
 
+// Where the word behind one that ends here starts.
+fn next_start(text: &[u8], end: usize) -> usize {
+    if end < text.len() {
+        end + 1
+    } else {
+        text.len()
+    }
+}
+
+// The word behind one that ends here; no bytes where there is none.
+pub(crate) fn value_at(text: &[u8], end: usize) -> &[u8] {
+    let start = next_start(text, end);
+    part(text, start, word_end(text, start))
+}
+
 // The word at a place. `ended` says that `--` was before it.
 pub(crate) fn word_at(text: &[u8], start: usize, ended: bool) -> Word {
     let end = word_end(text, start);
     let word = part(text, start, end);
-    let next = if end < text.len() {
-        end + 1
-    } else {
-        text.len()
-    };
+    let next = next_start(text, end);
     if ended {
         return Word {
             end,
             next,
             option: false,
             ended: true,
+        };
+    }
+    if same(word, b"--length") {
+        return Word {
+            end,
+            next: next_start(text, word_end(text, next)),
+            option: true,
+            ended: false,
         };
     }
     Word {

@@ -5,8 +5,10 @@ use crate::help::general_help;
 use crate::help::write_help;
 use crate::listing::write_job;
 use crate::options::Options;
+use crate::options::has_length;
 use crate::options::options_of;
 use crate::options::unknown_option;
+use crate::renumbering::renumber;
 use check::same;
 use listings::Job;
 use tool_files::load;
@@ -82,6 +84,18 @@ fn combine(walk: Walk, arguments: &[u8], options: Options, out: i32, err: i32) -
 }
 
 fn run_command(command: &[u8], arguments: &[u8], options: Options, out: i32, err: i32) -> usize {
+    if same(command, b"renumber") {
+        return renumber(arguments, options, out, err);
+    }
+    if options.pairs || options.back || has_length(arguments) {
+        let _told = tell(
+            err,
+            b"ERROR: --pairs, --back and --length are for renumber alone",
+            b"",
+            b"",
+        );
+        return 2;
+    }
     if same(command, b"compare") {
         if options.operands < 3 {
             let _told = tell(
@@ -132,7 +146,7 @@ pub fn run(arguments: &[u8], out: i32, err: i32) -> usize {
         return 2;
     }
     if options.version {
-        return write_help(b"layout 0.2.0\n", out, err);
+        return write_help(b"layout 0.3.0\n", out, err);
     }
     let command = operand(arguments, 0);
     if same(command, b"help") {

@@ -6,6 +6,7 @@ mod help;
 mod listing;
 mod options;
 mod program;
+mod renumbering;
 
 pub use commands::run;
 pub use program::run_program;

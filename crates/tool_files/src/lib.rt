@@ -8,5 +8,6 @@ pub use files::load;
 pub use messages::incomplete;
 pub use messages::tell;
 pub use messages::tell_error;
+pub use messages::tell_number;
 pub use parts::part;
 pub use streams::write_whole;

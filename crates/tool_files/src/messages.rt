@@ -15,7 +15,7 @@ pub fn tell(err: i32, before: &[u8], name: &[u8], after: &[u8]) -> bool {
 }
 
 // One line: a text, a name, a number and a text.
-pub(crate) fn tell_number(err: i32, before: &[u8], name: &[u8], number: u64, after: &[u8]) -> bool {
+pub fn tell_number(err: i32, before: &[u8], name: &[u8], number: u64, after: &[u8]) -> bool {
     let mut line = [0u8; 256];
     let named = append(&mut line, 0, before);
     let said = append_name(&mut line, named, name);
