@@ -1,7 +1,7 @@
--- `tool_files::files::read_piece` meets its contract: what was read is a piece more. Assumes nothing.
+-- `tool_files::offset_loading::read_piece` meets its contract: what was read is a piece more. Assumes nothing.
 use borrow.Author.Needs.{needs}
-use Rattle.tool_files.proofs.files.read_piece.Statement.{statement}
-use Rattle.tool_files.proofs.files.read_piece.Tie as tie
+use Rattle.tool_files.proofs.offset_loading.read_piece.Statement.{statement}
+use Rattle.tool_files.proofs.offset_loading.read_piece.Tie as tie
 
 returns : tie.Need-returns
 returns c = record { bytes = _; holds = c .before .before .before .before .before .before .before .before .take .ensures }
@@ -10,9 +10,6 @@ pub read-piece-spec : {M : Type 1} → statement M
 read-piece-spec =
     tie.close
     (tie.spec
-    (λ c κs. search needs)
-    (λ c. search needs)
-    (λ c κs. search needs)
     (λ c κs. search needs)
     (λ c. search needs)
     (λ c κs. search needs)
