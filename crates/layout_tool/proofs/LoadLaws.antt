@@ -4,16 +4,17 @@ use mathlib.Core.Bool.{Bool, true, false, not, true≢false}
 use mathlib.Core.List.{List, [], _++_}
 use Prim.Native.Nat.{ℕ}
 use lib.ListN.{length}
-use Rattle.offset_files.specs.Files.{Text, noText, takeBytes, atEnd, fileOf}
+use Rattle.offset_files.specs.Files.{Text, noText, takeLine, takeBytes, atEnd, fileOf}
 use Rattle.offset_files.specs.Holds.{HoldsFile, HoldsText}
 use Rattle.offset_files.specs.declared.reading.Reading.{Reading}
-use Rattle.offset_reads.proofs.TextLaws.{pieces}
+use Rattle.text_lines.specs.Texts as Texts
+use Rattle.text_lines.proofs.PieceLaws.{pieces}
 use Rattle.layout_tool.specs.Loading.{Took, ReadSome, ReadWhole, Usable}
 
 module _ {name : List ℕ} {r : Reading} {line words table report : List ℕ} where
   -- nothing is read yet
   pub read-none : HoldsText noText r line words table report → ReadSome name r line words table report
-  unfolding takeBytes
+  unfolding Texts.takeBytes
   read-none h = record { text = []; holds = h }
 
   -- a piece more
@@ -21,7 +22,7 @@ module _ {name : List ℕ} {r : Reading} {line words table report : List ℕ} wh
       → ReadSome name r₁ line₁ words₁ table₁ report₁
   read-more {r₁} {line₁} {words₁} {table₁} {report₁} h k = record {
     text = h .text ++ k .bytes;
-    holds = subst (λ (t : Text). HoldsText t r₁ line₁ words₁ table₁ report₁) (sym (pieces name noText (h .text) (k .bytes))) (k .holds (takeBytes name noText (h .text)) (h .holds));
+    holds = subst (λ (t : Text). HoldsText t r₁ line₁ words₁ table₁ report₁) (sym (pieces (takeLine name) noText (h .text) (k .bytes))) (k .holds (takeBytes name noText (h .text)) (h .holds));
   }
 
   -- the end of the text

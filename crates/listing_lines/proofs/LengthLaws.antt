@@ -21,13 +21,13 @@ digits-most (suc places) n =
     let ih = digits-most places (n / 10) in
     either (ltb n 10) _ _ (omega arith) (omega (arith, length-append (decimalOf places (n / 10)) ((48 + n % 10) ∷ [])))
 
-most : (n : ℕ) → length (decimal n) ≤ 20
+pub most : (n : ℕ) → length (decimal n) ≤ 20
 most n = digits-most 20 n
 
 -- ---- a line, with names of up to 64 bytes
 
 module _ (sheet missing : Bool) (has lacks : List ℕ) (h : length has ≤ 64) (k : length lacks ≤ 64) (total : ℕ) where
-  place-most : (place : ℕ) → length (placeText sheet total place) ≤ 42
+  pub place-most : (place : ℕ) → length (placeText sheet total place) ≤ 42
   unfolding placeText ascii
   place-most place = either sheet _ _ (simp length-append (omega (arith, most place, most total))) (omega arith)
 

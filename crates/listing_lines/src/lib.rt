@@ -3,3 +3,4 @@ mod lines;
 
 pub use lines::Listing;
 pub use lines::append_lines;
+pub use lines::append_place;

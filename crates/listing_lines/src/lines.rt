@@ -15,7 +15,8 @@ pub struct Listing {
     pub total: usize,
 }
 
-fn append_place(out: &mut [u8], at: usize, sheet: bool, total: usize, place: usize) -> usize
+// On a sheet, the place of a line and how many lines there are.
+pub fn append_place(out: &mut [u8], at: usize, sheet: bool, total: usize, place: usize) -> usize
     ensures { λ r. ⌜ record { end = r; out = now (out .exit) } ≡ written (now (out .entry)) at (placeText sheet total place) ⌝ }
 {
     if sheet {

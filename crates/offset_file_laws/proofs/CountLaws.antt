@@ -15,14 +15,15 @@ use Rattle.offset_lines.specs.Lines.{lineOf}
 use Rattle.offset_lines.specs.declared.entry.Entry.{Entry}
 use Rattle.offset_lines.specs.declared.entry.Entry.the-variants.{Blank, Offset, Says, NotANumber, TooLarge, CarriageReturn, TooLong, Damaged}
 use Rattle.offset_lines.proofs.LineLaws.{offset-below}
-use Rattle.offset_files.specs.Files.{File, noLines, more, entryLine, fileOf}
+use Rattle.text_lines.specs.Texts.{more}
+use Rattle.offset_files.specs.Files.{File, noLines, entryLine, fileOf}
 use Rattle.offset_file_laws.specs.Entries.{linesOf, bodiesOf, isOffset}
 use Rattle.offset_file_laws.proofs.StepLaws.{more-some, entry-first}
 use Rattle.offset_file_laws.proofs.GoodLaws.{never, offset-named, other-named}
 use Rattle.offset_file_laws.proofs.FoldLaws.{entered, file-is}
 
 -- one place more
-count-more : (n : ℕ) (f g : ℕ → Bool) (q : ℕ) → q < n → f q ≡ false → g q ≡ true → ((p : ℕ) → (p ≡ q → ⊥) → f p ≡ g p) → count n g ≡ count n f + 1
+pub count-more : (n : ℕ) (f g : ℕ → Bool) (q : ℕ) → q < n → f q ≡ false → g q ≡ true → ((p : ℕ) → (p ≡ q → ⊥) → f p ≡ g p) → count n g ≡ count n f + 1
 unfolding count
 count-more zero f g q l a b same = absurd (omega arith)
 count-more (suc n) f g q l a b same = go (lt-or-le q n) (count-more n f g q)

@@ -6,7 +6,8 @@ use Prim.Native.Nat.{ℕ}
 use borrow.Author.Tests.{eqb-true, ne-eqb}
 use lib.Dec.{eqb}
 use Rattle.offset_lines.specs.Lines.{lineOf}
-use Rattle.offset_files.specs.Files.{File, noLines, more, entryLine, fileOf}
+use Rattle.text_lines.specs.Texts.{more}
+use Rattle.offset_files.specs.Files.{File, noLines, entryLine, fileOf}
 use Rattle.offset_file_laws.specs.Entries.{linesOf, bodiesOf, entriesOf, isOffset, isLast, isBad, someEntry, firstLine}
 use Rattle.offset_file_laws.proofs.StepLaws.{more-some, entry-lines, entry-said, entry-first}
 use Rattle.offset_file_laws.proofs.GoodLaws.{good-entry, good-first}

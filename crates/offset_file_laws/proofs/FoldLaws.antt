@@ -8,7 +8,9 @@ use borrow.Author.Tests.{ne-eqb}
 use lib.Dec.{eqb}
 use lib.ListN.{length, length-append}
 use Rattle.offset_lines.specs.Lines.{lineOf}
-use Rattle.offset_files.specs.Files.{File, noLines, entryLine, bodyOf, takeLine, takeByte, takeBytes, atEnd, fileOf}
+use Rattle.text_lines.specs.Texts as Texts
+use Rattle.text_lines.specs.Texts.{bodyOf}
+use Rattle.offset_files.specs.Files.{File, noLines, entryLine, takeLine, takeBytes, atEnd, fileOf}
 use Rattle.offset_file_laws.specs.Entries.{onFirst, linesOf, bodiesOf}
 use Rattle.offset_file_laws.proofs.StepLaws.{more-some, entry-lines}
 
@@ -35,7 +37,7 @@ module _ (name : List ℕ) where
   onto-byte rest b (line ∷ lines) = ap (λ (xs : List ℕ). xs ∷ lines) (append-assoc rest (b ∷ []) line)
 
   end-lined : (f : File) (rest : List ℕ) → atEnd name (record { file = f; rest = rest }) ≡ lined f (onto rest [])
-  unfolding atEnd lined onto
+  unfolding Texts.atEnd lined onto
   end-lined f rest = go (eqb (length rest) 0)
     where
       go : (t : Bool) → cond t f (takeLine name rest f) ≡ lined f (cond t [] (rest ∷ []))
@@ -43,7 +45,7 @@ module _ (name : List ℕ) where
       go false = refl
 
   text-lined : (bs : List ℕ) (f : File) (rest : List ℕ) → atEnd name (takeBytes name (record { file = f; rest = rest }) bs) ≡ lined f (onto rest (linesOf bs))
-  unfolding takeBytes takeByte linesOf lined onto
+  unfolding Texts.takeBytes Texts.takeByte linesOf lined onto
   text-lined [] f rest = end-lined f rest
   text-lined (b ∷ bs) f rest = go (eqb b 10) (text-lined bs)
     where

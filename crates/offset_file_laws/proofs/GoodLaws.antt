@@ -8,7 +8,8 @@ use borrow.Author.Tests.{eqb-true, eq-eqb, ne-eqb}
 use lib.Dec.{eqb}
 use Rattle.offset_lines.specs.declared.entry.Entry.{Entry}
 use Rattle.offset_lines.specs.declared.entry.Entry.the-variants.{Blank, Offset, Says, NotANumber, TooLarge, CarriageReturn, TooLong, Damaged}
-use Rattle.offset_files.specs.Files.{File, more, blankLine, badLine, newOffset, secondNaming, entryLine}
+use Rattle.text_lines.specs.Texts.{more}
+use Rattle.offset_files.specs.Files.{File, blankLine, badLine, newOffset, secondNaming, entryLine}
 use Rattle.offset_file_laws.specs.Entries.{isOffset, isBad, saysCount}
 use Rattle.offset_files.proofs.EntryLaws.{chosen}
 use Rattle.offset_file_laws.proofs.StepLaws.{more-some, told, as-chosen, as-told, entry-first}

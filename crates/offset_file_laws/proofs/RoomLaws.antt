@@ -13,10 +13,13 @@ use Rattle.byte_texts.specs.Texts.{visible, dots, shownText}
 use Rattle.offset_lines.specs.Lines.{lineOf}
 use Rattle.offset_lines.specs.declared.entry.Entry.{Entry}
 use Rattle.offset_lines.specs.declared.entry.Entry.the-variants.{Blank, Offset, Says, NotANumber, TooLarge, CarriageReturn, TooLong, Damaged}
-use Rattle.offset_files.specs.Files.{File, noLines, more, blankLine, badLine, newOffset, secondNaming, entryLine, fileOf}
+use Rattle.text_lines.specs.Texts.{more}
+use Rattle.offset_files.specs.Files.{File, noLines, blankLine, badLine, newOffset, secondNaming, entryLine, fileOf}
 use Rattle.offset_file_laws.specs.Entries.{linesOf, bodiesOf}
-use Rattle.offset_files.specs.Messages.{badText, repeatText, wrongCount}
-use Rattle.offset_files.proofs.MessageLaws.{decimal-short, count-short}
+use Rattle.text_lines.specs.Messages.{badText}
+use Rattle.offset_files.specs.Messages.{repeatText, wrongCount}
+use Rattle.text_lines.proofs.MessageLaws.{decimal-short}
+use Rattle.offset_files.proofs.MessageLaws.{count-short}
 use Rattle.offset_files.proofs.EntryLaws.{chosen}
 use Rattle.offset_file_laws.proofs.StepLaws.{told, as-chosen, as-told}
 use Rattle.offset_file_laws.proofs.FoldLaws.{entered, file-is}
@@ -36,7 +39,7 @@ module _ (name : List ℕ) where
   abbrev pub room : ℕ
   room = length name + 146
 
-  bad-short : (k : ℕ) (reason body : List ℕ) → length reason ≤ 64 → length (badText name k reason body) ≤ room
+  pub bad-short : (k : ℕ) (reason body : List ℕ) → length reason ≤ 64 → length (badText name k reason body) ≤ room
   unfolding badText ascii
   bad-short k reason body h = simp length-append (omega (arith, decimal-short 20 k, shown-short body))
 

@@ -8,7 +8,8 @@ use borrow.Author.Tests.{eqb-true}
 use lib.Dec.{eqb}
 use Rattle.offset_lines.specs.declared.entry.Entry.{Entry}
 use Rattle.offset_lines.specs.declared.entry.Entry.the-variants.{Blank, Offset, Says, NotANumber, TooLarge, CarriageReturn, TooLong, Damaged}
-use Rattle.offset_files.specs.Files.{File, more, blankLine, badLine, newOffset, secondNaming, offsetLine, saidLine, entryLine}
+use Rattle.text_lines.specs.Texts.{more}
+use Rattle.offset_files.specs.Files.{File, blankLine, badLine, newOffset, secondNaming, offsetLine, saidLine, entryLine}
 use Rattle.offset_file_laws.specs.Entries.{isOffset, isLast}
 use Rattle.offset_files.specs.Messages.{wrongCount}
 use Rattle.offset_files.proofs.EntryLaws.{chosen}

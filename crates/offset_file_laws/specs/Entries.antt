@@ -6,7 +6,7 @@ use lib.Dec.{eqb}
 use Rattle.offset_lines.specs.Lines.{lineOf}
 use Rattle.offset_lines.specs.declared.entry.Entry.{Entry}
 use Rattle.offset_lines.specs.declared.entry.Entry.the-variants.{Blank, Offset, Says, NotANumber, TooLarge, CarriageReturn, TooLong, Damaged}
-use Rattle.offset_files.specs.Files.{more, bodyOf}
+use Rattle.text_lines.specs.Texts.{more, bodyOf}
 
 -- one byte more at the start of the first line
 unfoldable pub onFirst : ℕ → List (List ℕ) → List (List ℕ)

@@ -1,25 +1,19 @@
 -- What an offset's word of the table tells, and what is held after an offset, the last line of a list, and any entry. Assumes nothing.
 use mathlib.Core.Path.{_≡_, refl, sym, ap, subst, _∙_}
 use mathlib.Core.Bool.{Bool, true, false, cond}
-use mathlib.Core.List.{List, _++_}
+use mathlib.Core.List.{List}
 use Prim.Native.Nat.{ℕ, _/_, _%_, _≤_, _<_}
 use native.Mathlib.Omega.{arith}
 use borrow.Author.Tests.{eq-eqb, ne-eqb}
 use lib.Dec.{eqb}
 use lib.ListN.{getD}
 use Rattle.byte_texts.specs.Ascii.{ascii}
-use Rattle.byte_texts.specs.Texts.{decimal, shownText}
 use Rattle.offset_files.specs.Files.{File, blankLine, badLine, newOffset, secondNaming, offsetLine, saidLine}
 use Rattle.offset_files.specs.Holds.{HoldsFile}
-use Rattle.offset_files.specs.Messages.{badText, wrongCount}
+use Rattle.offset_files.specs.Messages.{wrongCount}
 use Rattle.offset_files.specs.declared.reading.Reading.{Reading}
 use Rattle.offset_files.proofs.TableLaws.{table-first, table-again}
 use Rattle.offset_files.proofs.HoldsLaws.{with-lines}
-
--- a bad line is said by what is shown of it
-pub bad-shown : (name : List ℕ) (k : ℕ) (reason body full : List ℕ) → shownText body ≡ shownText full → badText name k reason body ≡ badText name k reason full
-unfolding badText
-bad-shown name k reason body full e = ap (λ (xs : List ℕ). ascii "ERROR: " ++ name ++ ascii ", line " ++ decimal k ++ ascii ": " ++ reason ++ ascii ": " ++ xs ++ ascii "\n") e
 
 -- ---- a word of the table
 

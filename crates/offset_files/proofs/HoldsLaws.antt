@@ -11,11 +11,13 @@ use Rattle.byte_texts.specs.Texts.{written}
 use Rattle.sets.specs.Members.{read}
 use Rattle.sets.specs.Outcomes.{Outcome}
 use Rattle.edits.specs.Rules.{insertRule}
-use Rattle.offset_files.specs.Files.{File, more, blankLine, badLine, newOffset, secondNaming}
+use Rattle.text_lines.specs.Texts.{more}
+use Rattle.text_lines.specs.Messages.{badText}
+use Rattle.offset_files.specs.Files.{File, blankLine, badLine, newOffset, secondNaming}
 use Rattle.offset_files.specs.Holds.{HoldsFile, tableWord, allOffsets}
-use Rattle.offset_files.specs.Messages.{badText, repeatText}
+use Rattle.offset_files.specs.Messages.{repeatText}
 use Rattle.offset_files.specs.declared.reading.Reading.{Reading}
-use Rattle.offset_files.proofs.ReportLaws.{Reported, reported-first, reported-enough}
+use Rattle.text_lines.proofs.ReportLaws.{Reported, reported-first, reported-enough}
 use Rattle.offset_files.proofs.TableLaws.{entries-new, entries-again, inserted-long, inserted-has}
 
 -- what is held of a file says nothing of a line that is not ended; and more lines, and whether a last line of a list is among them, change nothing else

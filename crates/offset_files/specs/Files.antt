@@ -1,14 +1,16 @@
 -- What a file of offsets is, from its bytes: line by line from the top.
 use mathlib.Core.Bool.{Bool, true, false, cond}
-use mathlib.Core.List.{List, [], _∷_, _++_}
-use Prim.Native.Nat.{ℕ, _+_, min}
+use mathlib.Core.List.{List, [], _++_}
+use Prim.Native.Nat.{ℕ}
 use lib.Dec.{eqb, ltb}
-use lib.ListN.{length, drop}
 use Rattle.byte_texts.specs.Ascii.{ascii}
-use Rattle.offset_lines.specs.Lines.{lineOf, startsWith}
+use Rattle.text_lines.specs.Texts as Texts
+use Rattle.text_lines.specs.Texts.{more, bodyOf}
+use Rattle.text_lines.specs.Messages.{badText}
+use Rattle.offset_lines.specs.Lines.{lineOf}
 use Rattle.offset_lines.specs.declared.entry.Entry.{Entry}
 use Rattle.offset_lines.specs.declared.entry.Entry.the-variants.{Blank, Offset, Says, NotANumber, TooLarge, CarriageReturn, TooLong, Damaged}
-use Rattle.offset_files.specs.Messages.{badText, repeatText, wrongCount}
+use Rattle.offset_files.specs.Messages.{repeatText, wrongCount}
 
 -- what the lines so far say: how many they are; the line that names an offset first, 0 for none, and whether another does; how many offsets are named;
 -- whether a last line of a list is among them; how many lines are bad; how many offsets are named again; and what is said of the first 20 of each
@@ -24,10 +26,6 @@ pub record File : Type 0 where
 
 abbrev pub noLines : File
 noLines = record { lines = 0; first = λ p. 0; again = λ p. false; named = 0; said = false; bads = 0; repeats = 0; report = [] }
-
--- lines are counted up to 2 ^ 32 - 1
-unfoldable pub more : ℕ → ℕ
-more n = min 4294967295 (n + 1)
 
 -- a line with nothing to say
 unfoldable pub blankLine : File → File
@@ -94,33 +92,22 @@ entryLine name body CarriageReturn f = badLine name body (ascii "a carriage retu
 entryLine name body TooLong f = badLine name body (ascii "longer than 2048 bytes") f
 entryLine name body Damaged f = badLine name body (ascii "a damaged last line of a list") f
 
--- a byte order mark at the start of the first line is skipped
-unfoldable pub bodyOf : ℕ → List ℕ → List ℕ
-bodyOf lines line = cond (eqb lines 0) (cond (startsWith (239 ∷ 187 ∷ 191 ∷ []) line) (drop 3 line) line) line
-
 -- one line more
 unfoldable pub takeLine : List ℕ → List ℕ → File → File
 takeLine name line f = entryLine name (bodyOf (f .lines) line) (lineOf (bodyOf (f .lines) line)) f
 
--- a text that is read so far: its ended lines, and the bytes behind the last line feed
-pub record Text : Type 0 where
-  pub file : File
-  pub rest : List ℕ
+-- a text that is read so far, byte by byte
+abbrev pub Text : Type 0
+Text = Texts.Text File
 
 abbrev pub noText : Text
 noText = record { file = noLines; rest = [] }
 
--- one byte more, and several
-unfoldable pub takeByte : List ℕ → Text → ℕ → Text
-takeByte name t b = cond (eqb b 10) (record { file = takeLine name (t .rest) (t .file); rest = [] }) (record { file = t .file; rest = t .rest ++ (b ∷ []) })
+abbrev pub takeBytes : List ℕ → Text → List ℕ → Text
+takeBytes name t bytes = Texts.takeBytes (takeLine name) t bytes
 
-unfoldable pub takeBytes : List ℕ → Text → List ℕ → Text
-takeBytes name t [] = t
-takeBytes name t (b ∷ bs) = takeBytes name (takeByte name t b) bs
-
--- at the end of the text, bytes behind the last line feed are a line
-unfoldable pub atEnd : List ℕ → Text → File
-atEnd name t = cond (eqb (length (t .rest)) 0) (t .file) (takeLine name (t .rest) (t .file))
+abbrev pub atEnd : List ℕ → Text → File
+atEnd name t = Texts.atEnd (takeLine name) t
 
 -- what a file is
 unfoldable pub fileOf : List ℕ → List ℕ → File

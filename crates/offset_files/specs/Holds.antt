@@ -2,11 +2,12 @@
 use mathlib.Core.Path.{_≡_}
 use mathlib.Core.Bool.{Bool, cond, not}
 use mathlib.Core.List.{List}
-use Prim.Native.Nat.{ℕ, _+_, _*_, _≤_, _<_, min}
+use Prim.Native.Nat.{ℕ, _+_, _*_, _<_, min}
 use lib.Dec.{eqb}
 use lib.ListN.{length, take, getD}
 use Rattle.sets.specs.Members.{read}
 use Rattle.sets.specs.declared.fixed_bit_set.FixedBitSet.{FixedBitSet}
+use Rattle.text_lines.specs.Rests.{HoldsRest}
 use Rattle.offset_files.specs.Files.{File, Text}
 use Rattle.offset_files.specs.declared.reading.Reading.{Reading}
 
@@ -32,12 +33,6 @@ pub record HoldsFile (f : File) (r : Reading) (words table report : List ℕ) : 
   -- the report stands at the start of its buffer, as far as that has room
   pub report-end : r .report ≡ min (length report) (length (f .report))
   pub reported : take (r .report) report ≡ take (r .report) (f .report)
-
--- of a line that is not ended as much as decides what it is: 2,052 bytes, for a line of up to 2,048 behind a byte order mark, and one more
-pub record HoldsRest (rest : List ℕ) (size : ℕ) (line : List ℕ) : Type 0 where
-  pub line-long : 2052 ≤ length line
-  pub rest-length : size ≡ min 2052 (length rest)
-  pub rest-bytes : take size line ≡ take 2052 rest
 
 pub record HoldsText (t : Text) (r : Reading) (line words table report : List ℕ) : Type 0 where
   pub file : HoldsFile (t .file) r words table report

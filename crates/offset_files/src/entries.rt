@@ -1,11 +1,11 @@
-use crate::messages::append_bad;
 use crate::messages::append_repeat;
 use crate::messages::append_wrong_count;
-use crate::numbers::more;
 use crate::reading::Reading;
 use blocks::block;
 use edits::insert;
 use sets::FixedBitSet;
+use text_lines::append_bad;
+use text_lines::more;
 ghost use mathlib.Core.Path.{_≡_};
 ghost use mathlib.Core.Bool.{false};
 ghost use mathlib.Core.List.{List};

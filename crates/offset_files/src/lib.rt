@@ -1,7 +1,6 @@
 // What a file of offsets is, and what each kind of line does to what is held of it: the set of its offsets, the line that names each first, and what is said of bad lines and repeats.
 mod entries;
 mod messages;
-mod numbers;
 mod reading;
 
 pub use entries::bad_line;

@@ -1,6 +1,6 @@
 -- What users of a line need: a long line may be cut, and its numbers are in range. Assumes nothing.
 use mathlib.Core.Path.{_≡_, refl, ap, subst}
-use mathlib.Core.Bool.{Bool, true, false, cond, _&&_, _||_}
+use mathlib.Core.Bool.{Bool, true, false, cond}
 use mathlib.Core.Logic.{_⊎_, inl, inr}
 use mathlib.Core.List.{List}
 use Prim.Native.Nat.{ℕ, _≤_, _<_}
@@ -10,11 +10,10 @@ use lib.Dec.{eqb, leb, ltb}
 use lib.ListN.{length, take, drop, length-take}
 use lib.Seq.{take-all}
 use Rattle.byte_texts.specs.Ascii.{ascii}
-use Rattle.offset_lines.specs.Lines.{dropBlanks, digitsOf, afterDigits, valueOf, startsWith, isText, isVoid, numberOf, numberText, saidOf, completeText, textOf, withoutReturn, hasReturn, lineOf}
+use Rattle.offset_lines.specs.Lines.{dropBlanks, digitsOf, afterDigits, valueOf, startsWith, isVoid, numberOf, numberText, saidNumber, completeText, textOf, withoutReturn, hasReturn, lineOf}
 use Rattle.offset_lines.specs.declared.entry.Entry.{Entry}
 use Rattle.offset_lines.specs.declared.entry.Entry.the-variants.{Blank, Offset, Says, NotANumber, TooLarge, CarriageReturn, TooLong, Damaged}
 use Rattle.offset_lines.proofs.Texts.{yes-no}
-use Rattle.offset_lines.proofs.Digits.{both}
 
 -- ---- a line cut behind its 2,048th byte is still too long, and a shorter one is not cut
 
@@ -52,18 +51,15 @@ number-range base text =
     either (isVoid (dropBlanks (afterDigits base text)))
     (λ e. either (eqb (length (digitsOf base text)) 0) (λ e. no-number) (either (ltb v 65536) (λ e. offset (ltb-true v 65536 e)) too-large)) no-number
 
-said-range : (count value : ℕ) (word : List ℕ) → InRange (saidOf count value word)
-unfolding saidOf
-said-range count value word =
-    let range = ltb 0 count && leb value 65536 in
-    let named = isText (ascii " offset") word || isText (ascii " offsets") word in
-    either (range && named) (λ e. says (leb-true value 65536 (both (ltb 0 count) (leb value 65536) (both range named e .0) .1))) damaged
+complete-range : (rest : List ℕ) → InRange (completeText rest)
+unfolding completeText
+complete-range rest = either (leb (saidNumber (ascii " offset") (ascii " offsets") rest) 65536) (λ e. says (leb-true _ 65536 e)) damaged
 
 text-range : (text : List ℕ) → InRange (textOf text)
-unfolding textOf completeText
+unfolding textOf
 text-range text =
     either (isVoid text)
-    (λ e. either (startsWith (ascii "# complete:") text) (λ e. either (startsWith (ascii " ") (drop 11 text)) (λ e. said-range _ _ _) damaged) blank)
+    (λ e. either (startsWith (ascii "# complete:") text) (λ e. complete-range (drop 11 text)) blank)
     (either (startsWith (ascii "0x") text) (λ e. number-range 16 (drop 2 text)) (number-range 10 text))
 
 line-range : (line : List ℕ) → InRange (lineOf line)

@@ -10,7 +10,6 @@ use borrow.Rule.Slice.PartAt.{part-to-end}
 use lib.Dec.{eqb, ltb}
 use lib.ListN.{length, take, drop}
 use Rattle.offset_lines.specs.Lines.{isDigit, dropBlanks, digitsOf, afterDigits, valueOf, startsWith, isVoid, numberOf, numberText, saidOf}
-use Rattle.offset_lines.specs.declared.entry.Entry.{Entry}
 use Rattle.offset_lines.specs.declared.entry.Entry.the-variants.{NotANumber}
 use Rattle.offset_lines.specs.declared.scans.Digits.{Digits}
 use Rattle.offset_lines.proofs.Texts.{yes-no}
@@ -41,7 +40,7 @@ digits-within base (b ∷ text) = go (yes-no (isDigit base b)) (digits-within ba
     go (inl h) l = simp h (omega arith)
     go (inr h) l = simp h (omega arith)
 
-after-is : (base : ℕ) (text : List ℕ) → drop (length (digitsOf base text)) text ≡ afterDigits base text
+pub after-is : (base : ℕ) (text : List ℕ) → drop (length (digitsOf base text)) text ≡ afterDigits base text
 unfolding digitsOf afterDigits
 after-is base [] = refl
 after-is base (b ∷ text) = go (yes-no (isDigit base b)) (after-is base text)
@@ -64,12 +63,12 @@ number-capped n v = go (yes-no (ltb v 65537))
         let e : min 65537 v ≡ 65537 = omega arith in
         simp (e, le-ltb v 65536 (omega arith))
 
-said-capped : (n v : ℕ) (word : List ℕ) → saidOf n (min 65537 v) word ≡ saidOf n v word
+said-capped : (one many : List ℕ) (n v : ℕ) (word : List ℕ) → saidOf one many n (min 65537 v) word ≡ saidOf one many n v word
 unfolding saidOf
-said-capped n v word = go (yes-no (ltb v 65537)) (yes-no (ltb 0 n))
+said-capped one many n v word = go (yes-no (ltb v 65537)) (yes-no (ltb 0 n))
   where
-    go : (ltb v 65537 ≡ true) ⊎ (ltb v 65537 ≡ false) → (ltb 0 n ≡ true) ⊎ (ltb 0 n ≡ false) → saidOf n (min 65537 v) word ≡ saidOf n v word
-    go (inl h) z = let l = ltb-true v 65537 h in let e : min 65537 v ≡ v = omega arith in ap (λ (x : ℕ). saidOf n x word) e
+    go : (ltb v 65537 ≡ true) ⊎ (ltb v 65537 ≡ false) → (ltb 0 n ≡ true) ⊎ (ltb 0 n ≡ false) → saidOf one many n (min 65537 v) word ≡ saidOf one many n v word
+    go (inl h) z = let l = ltb-true v 65537 h in let e : min 65537 v ≡ v = omega arith in ap (λ (x : ℕ). saidOf one many n x word) e
     go (inr h) (inl z) =
         let l = ltb-false v 65537 h in
         let e : min 65537 v ≡ 65537 = omega arith in
@@ -78,8 +77,8 @@ said-capped n v word = go (yes-no (ltb v 65537)) (yes-no (ltb 0 n))
 
 -- ---- a number at the start of a text, with what stands behind it
 
-abbrev pub saidText : ℕ → List ℕ → Entry
-saidText base text = saidOf (length (digitsOf base text)) (valueOf base (digitsOf base text)) (afterDigits base text)
+abbrev pub saidText : List ℕ → List ℕ → ℕ → List ℕ → ℕ
+saidText one many base text = saidOf one many (length (digitsOf base text)) (valueOf base (digitsOf base text)) (afterDigits base text)
 
 module _ (base : ℕ) (text : List ℕ) (d : Digits) (r : d ≡ allRead base text) where
   pub count-within : d .count ≤ length text
@@ -101,5 +100,5 @@ module _ (base : ℕ) (text : List ℕ) (d : Digits) (r : d ≡ allRead base tex
     unfolding numberText
     number-not h = simp (sym void-is ∙ h)
 
-  pub said-is : saidOf (d .count) (d .value) (from (d .count) text) ≡ saidText base text
-  said-is = ap (saidOf (d .count) (d .value)) rest-is ∙ ap (λ (x : Digits). saidOf (x .count) (x .value) (afterDigits base text)) r ∙ said-capped _ _ _
+  pub said-is : (one many : List ℕ) → saidOf one many (d .count) (d .value) (from (d .count) text) ≡ saidText one many base text
+  said-is one many = ap (saidOf one many (d .count) (d .value)) rest-is ∙ ap (λ (x : Digits). saidOf one many (x .count) (x .value) (afterDigits base text)) r ∙ said-capped one many _ _ _

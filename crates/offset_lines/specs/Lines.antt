@@ -61,13 +61,16 @@ unfoldable pub numberText : ℕ → List ℕ → Entry
 numberText base text =
     cond (isVoid (dropBlanks (afterDigits base text))) (numberOf (length (digitsOf base text)) (valueOf base (digitsOf base text))) NotANumber
 
--- what stands behind `# complete:` in the last line of a list: a space, a number up to 65,536, and the word for it
-unfoldable pub saidOf : ℕ → ℕ → List ℕ → Entry
-saidOf count value word = cond ((ltb 0 count && leb value 65536) && (isText (ascii " offset") word || isText (ascii " offsets") word)) (Says value) Damaged
+-- what stands behind `# complete:` in the last line of a list: a space, a number up to 65,536, and the word for one or for many; 65,537 where it is damaged
+unfoldable pub saidOf : List ℕ → List ℕ → ℕ → ℕ → List ℕ → ℕ
+saidOf one many count value word = cond ((ltb 0 count && leb value 65536) && (isText one word || isText many word)) value 65537
+
+unfoldable pub saidNumber : List ℕ → List ℕ → List ℕ → ℕ
+saidNumber one many rest =
+    cond (startsWith (ascii " ") rest) (saidOf one many (length (digitsOf 10 (drop 1 rest))) (valueOf 10 (digitsOf 10 (drop 1 rest))) (afterDigits 10 (drop 1 rest))) 65537
 
 unfoldable pub completeText : List ℕ → Entry
-completeText rest =
-    cond (startsWith (ascii " ") rest) (saidOf (length (digitsOf 10 (drop 1 rest))) (valueOf 10 (digitsOf 10 (drop 1 rest))) (afterDigits 10 (drop 1 rest))) Damaged
+completeText rest = cond (leb (saidNumber (ascii " offset") (ascii " offsets") rest) 65536) (Says (saidNumber (ascii " offset") (ascii " offsets") rest)) Damaged
 
 -- a text from its first byte that is not blank
 unfoldable pub textOf : List ℕ → Entry

@@ -1,13 +1,13 @@
 use crate::entry::Entry;
+use crate::last_lines::said_number;
 use crate::scans::end_of;
 use crate::scans::has_return;
-use crate::scans::is_text;
 use crate::scans::is_void;
 use crate::scans::read_digits;
 use crate::scans::skip_blanks;
 use crate::scans::starts_with;
 ghost use mathlib.Core.Path.{_≡_};
-ghost use Rattle.offset_lines.specs.Lines.{numberOf, numberText, saidOf, completeText, textOf, lineOf};
+ghost use Rattle.offset_lines.specs.Lines.{numberOf, numberText, completeText, textOf, lineOf};
 
 // So many digits of such a value.
 fn number_of(count: usize, value: usize) -> Entry
@@ -38,35 +38,13 @@ fn number_text(text: &[u8], base: u8) -> Entry
     Entry::NotANumber
 }
 
-// So many digits of such a value in the last line of a list, and the word for it.
-fn said_of(count: usize, value: usize, word: &[u8]) -> Entry
-    ensures { λ r. ⌜ r ≡ saidOf count value (now (word .entry)) ⌝ }
-{
-    if count == 0 {
-        return Entry::Damaged;
-    }
-    if 65536 < value {
-        return Entry::Damaged;
-    }
-    if is_text(b" offset", word) {
-        return Entry::Says(value);
-    }
-    if is_text(b" offsets", word) {
-        return Entry::Says(value);
-    }
-    Entry::Damaged
-}
-
 // What stands behind `# complete:`.
 fn complete_text(rest: &[u8]) -> Entry
     ensures { λ r. ⌜ r ≡ completeText (now (rest .entry)) ⌝ }
 {
-    if starts_with(b" ", rest) {
-        let text = &rest[1..];
-        let digits = read_digits(text, 10);
-        let count = digits.count;
-        let value = digits.value;
-        return said_of(count, value, &text[count..]);
+    let says = said_number(rest, b" offset", b" offsets");
+    if says <= 65536 {
+        return Entry::Says(says);
     }
     Entry::Damaged
 }

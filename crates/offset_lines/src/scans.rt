@@ -5,13 +5,13 @@ ghost use lib.ListN.{length, take, drop};
 ghost use Rattle.offset_lines.specs.Lines.{isBlank, isDigit, digitValue, dropBlanks, digitsOf, valueOf, startsWith, isText, isVoid, withoutReturn, hasReturn};
 
 // How many digits a text starts with, and their value, up to 65,537.
-pub(crate) struct Digits {
+pub struct Digits {
     pub count: usize,
     pub value: usize,
 }
 
 // Where a line ends without the carriage return that ends it.
-pub(crate) fn end_of(line: &[u8]) -> usize
+pub fn end_of(line: &[u8]) -> usize
     ensures { λ r. ⌜ (r ≤ length (now (line .entry))) × (take r (now (line .entry)) ≡ withoutReturn (now (line .entry))) ⌝ }
 {
     let size = line.len();
@@ -26,7 +26,7 @@ pub(crate) fn end_of(line: &[u8]) -> usize
 }
 
 // Whether a carriage return is there.
-pub(crate) fn has_return(text: &[u8]) -> bool
+pub fn has_return(text: &[u8]) -> bool
     ensures { λ r. ⌜ r ≡ hasReturn (now (text .entry)) ⌝ }
 {
     let mut k = 0;
@@ -47,7 +47,7 @@ fn is_blank(byte: u8) -> bool
 }
 
 // Where the first byte stands that is not blank.
-pub(crate) fn skip_blanks(text: &[u8]) -> usize
+pub fn skip_blanks(text: &[u8]) -> usize
     ensures { λ r. ⌜ (r ≤ length (now (text .entry))) × (drop r (now (text .entry)) ≡ dropBlanks (now (text .entry))) ⌝ }
 {
     let mut k = 0;
@@ -96,7 +96,7 @@ fn capped(value: usize) -> usize
 }
 
 // The digits that a text starts with.
-pub(crate) fn read_digits(text: &[u8], base: u8) -> Digits
+pub fn read_digits(text: &[u8], base: u8) -> Digits
     ensures { λ r. ⌜ r ≡ record { count = length (digitsOf base (now (text .entry))); value = min 65537 (valueOf base (digitsOf base (now (text .entry)))) } ⌝ }
 {
     let mut count = 0;
@@ -113,7 +113,7 @@ pub(crate) fn read_digits(text: &[u8], base: u8) -> Digits
 }
 
 // Whether a text starts with these bytes.
-pub(crate) fn starts_with(these: &[u8], text: &[u8]) -> bool
+pub fn starts_with(these: &[u8], text: &[u8]) -> bool
     ensures { λ r. ⌜ r ≡ startsWith (now (these .entry)) (now (text .entry)) ⌝ }
 {
     if text.len() < these.len() {
@@ -137,7 +137,7 @@ pub(crate) fn is_text(these: &[u8], text: &[u8]) -> bool
 }
 
 // Whether nothing is there, or a comment.
-pub(crate) fn is_void(text: &[u8]) -> bool
+pub fn is_void(text: &[u8]) -> bool
     ensures { λ r. ⌜ r ≡ isVoid (now (text .entry)) ⌝ }
 {
     if text.len() == 0 {

@@ -8,11 +8,14 @@ use lib.Seq.{take-all}
 use mathlib.Core.Bool.{false}
 use Rattle.blocks.specs.Sweeps.{swept}
 use Rattle.blocks.proofs.BlockLaws.{zeroed, length-swept}
+use Rattle.text_lines.specs.Texts as Texts
+use Rattle.text_lines.specs.Rests.{HoldsRest}
+use Rattle.text_lines.proofs.PieceLaws.{bytes-next}
 use Rattle.offset_files.specs.Files.{File, Text, noText, takeLine, takeBytes}
-use Rattle.offset_files.specs.Holds.{HoldsFile, HoldsRest, HoldsText, tableWord}
+use Rattle.offset_files.specs.Holds.{HoldsFile, HoldsText, tableWord}
 use Rattle.offset_files.specs.declared.reading.Reading.{Reading}
 use Rattle.offset_files.proofs.TableLaws.{zero-at, zero-members}
-use Rattle.offset_reads.proofs.TextLaws.{bytes-next, Held, held-text, line-ends, byte-kept}
+use Rattle.offset_reads.proofs.TextLaws.{Held, held-text, line-ends, byte-kept}
 
 -- ---- the start
 
@@ -52,7 +55,7 @@ pub record Taking (name piece line₀ words₀ table₀ report₀ : List ℕ) (s
 
 module _ (name piece line₀ words₀ table₀ report₀ : List ℕ) (state₀ : Reading) where
   pub taking-start : Taking name piece line₀ words₀ table₀ report₀ state₀ line₀ words₀ table₀ report₀ state₀ (state₀ .length) 0
-  unfolding takeBytes
+  unfolding Texts.takeBytes
   taking-start = record {
     within = omega arith;
     same-line = refl;
@@ -73,7 +76,7 @@ module _ (name piece line₀ words₀ table₀ report₀ : List ℕ) (state₀ :
       same-table = i .same-table;
       same-report = i .same-report;
       holds = λ t h. let g = i .holds t h in
-          subst (λ (u : Text). Held u state size' line' words table report) (sym (bytes-next name t piece k l)) (byte-kept name _ (getD piece k 0) g n (step _ (g .rest)));
+          subst (λ (u : Text). Held u state size' line' words table report) (sym (bytes-next (takeLine name) t piece k l)) (byte-kept name _ (getD piece k 0) g n (step _ (g .rest)));
     }
 
     pub taking-line : k < length piece → getD piece k 0 ≡ 10 → {words' table' report' : List ℕ} {state' : Reading}
@@ -87,7 +90,7 @@ module _ (name piece line₀ words₀ table₀ report₀ : List ℕ) (state₀ :
       same-table = c ∙ i .same-table;
       same-report = d ∙ i .same-report;
       holds = λ t h. let g = i .holds t h in
-          subst (λ (u : Text). Held u state' 0 line words' table' report') (sym (bytes-next name t piece k l)) (line-ends name _ (getD piece k 0) g e (step _ _ (g .rest) (g .file)));
+          subst (λ (u : Text). Held u state' 0 line words' table' report') (sym (bytes-next (takeLine name) t piece k l)) (line-ends name _ (getD piece k 0) g e (step _ _ (g .rest) (g .file)));
     }
 
     pub taking-end : length piece ≤ k → (t : Text) → HoldsText t state₀ line₀ words₀ table₀ report₀

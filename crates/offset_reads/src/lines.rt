@@ -5,30 +5,15 @@ use offset_files::offset_line;
 use offset_files::said_line;
 use offset_lines::Entry;
 use offset_lines::parse_line;
+use text_lines::starts_with_mark;
 ghost use mathlib.Core.Path.{_≡_};
-ghost use mathlib.Core.List.{List, [], _∷_};
+ghost use mathlib.Core.List.{List};
 ghost use Prim.Native.Nat.{ℕ};
 ghost use lib.ListN.{take};
 ghost use Rattle.byte_texts.specs.Texts.{shownText};
-ghost use Rattle.offset_lines.specs.Lines.{lineOf, startsWith};
+ghost use Rattle.offset_lines.specs.Lines.{lineOf};
 ghost use Rattle.offset_files.specs.Files.{File, entryLine, takeLine};
 ghost use Rattle.offset_files.specs.Holds.{HoldsFile};
-
-// Whether a line starts with a byte order mark.
-fn starts_with_mark(line: &[u8]) -> bool
-    ensures { λ r. ⌜ r ≡ startsWith (239 ∷ 187 ∷ 191 ∷ []) (now (line .entry)) ⌝ }
-{
-    if line.len() < 3 {
-        return false;
-    }
-    if line[0] != 239 {
-        return false;
-    }
-    if line[1] != 187 {
-        return false;
-    }
-    line[2] == 191
-}
 
 // A line by what it is. `body` has as many bytes of it as decide that, and as are shown.
 fn take_body(

@@ -1,12 +1,14 @@
 use crate::lines::take_line;
 use blocks::change_blocks;
 use offset_files::Reading;
+use text_lines::keep_byte;
 ghost use mathlib.Core.Path.{_≡_};
-ghost use mathlib.Core.List.{List, [], _∷_, _++_};
+ghost use mathlib.Core.List.{List};
 ghost use Prim.Native.Nat.{ℕ, _≤_};
 ghost use lib.ListN.{length};
+ghost use Rattle.text_lines.specs.Rests.{HoldsRest};
 ghost use Rattle.offset_files.specs.Files.{File, Text, noText, takeLine, takeBytes, atEnd};
-ghost use Rattle.offset_files.specs.Holds.{HoldsFile, HoldsRest, HoldsText};
+ghost use Rattle.offset_files.specs.Holds.{HoldsFile, HoldsText};
 
 // Nothing is read. The words and the table are cleared.
 pub fn start(words: &mut [u64], table: &mut [u64]) -> Reading
@@ -26,19 +28,6 @@ pub fn start(words: &mut [u64], table: &mut [u64]) -> Reading
         repeats: 0,
         report: 0,
     }
-}
-
-// A byte more of a line: as many are kept as decide what it is.
-fn keep_byte(byte: u8, length: usize, line: &mut [u8]) -> usize
-    ensures { λ r. ⌜ ((rest : List ℕ) → HoldsRest rest length (now (line .entry)) → HoldsRest (rest ++ (byte ∷ [])) r (now (line .exit))) ⌝ }
-{
-    if length < 2052 {
-        if length < line.len() {
-            line[length] = byte;
-            return length + 1;
-        }
-    }
-    length
 }
 
 // The end of a line.

@@ -54,7 +54,7 @@ none-clipped : (n : ℕ) → Clipped (empty n)
 none-clipped n = record { above = λ p h. refl }
 
 module _ (ws ms : List ℕ) (ps : List Pair) (size : length ms ≡ 1024) where
-  run : passed Mark ws ps (cleared ms) ≡ record { found = hits (empty 65536) (olds ps); words = write ms (marks (empty 65536) (olds ps)) }
+  pub run : passed Mark ws ps (cleared ms) ≡ record { found = hits (empty 65536) (olds ps); words = write ms (marks (empty 65536) (olds ps)) }
   run = ap (passed Mark ws ps) (clear-write ms size) ∙ marked-run ws ms ps (empty 65536) (none-clipped 65536) refl size
 
   shared-found : shared ws ps ms .found ≡ repeats (olds ps)

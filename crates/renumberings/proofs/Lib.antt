@@ -5,6 +5,7 @@ pub mod TaskLaws
 pub mod RepeatLaws
 pub mod RunLaws
 pub mod AskLaws
+pub mod AllMarked
 pub mod PairListLaws
 pub mod CountLaws
 pub mod AcceptLaws

@@ -156,7 +156,7 @@ marks-clipped t (x ∷ xs) c = go (t .has x) (marks-clipped (held x t) xs (held-
     go true d = held-clipped x t c
     go false d = d
 
-held-has : (x : ℕ) (t : Members) (p : ℕ) → p < t .len → held x t .has p ≡ (eqb x p || t .has p)
+pub held-has : (x : ℕ) (t : Members) (p : ℕ) → p < t .len → held x t .has p ≡ (eqb x p || t .has p)
 unfolding changed
 held-has x t p h = go (lt-or-le x (t .len))
   where

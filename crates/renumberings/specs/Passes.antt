@@ -1,11 +1,12 @@
 -- What the helpers do, pair by pair.
-use mathlib.Core.Bool.{Bool, true, false, cond, _||_}
+use mathlib.Core.Bool.{Bool, true, false, cond, _&&_, _||_}
 use mathlib.Core.List.{List, [], _∷_}
 use Prim.Native.Nat.{ℕ, _*_, _/_, _%_, _^_}
 use lib.Bits.{bitOr}
 use lib.Dec.{eqb, leb}
 use lib.ListN.{length, getD, set as setAt}
 use Rattle.blocks.specs.Sweeps.{swept}
+use Rattle.word_bits.specs.Counts.{count}
 use Rattle.sets.specs.Members.{read, bitOf}
 use Rattle.renumberings.specs.Pairs.{olds, repeats}
 use Rattle.renumberings.specs.declared.pair.Pair.{Pair}
@@ -54,6 +55,10 @@ passed task olds (p ∷ ps) ws = cond (taken task olds p ws .found) (taken task 
 -- every word 0
 unfoldable pub cleared : List ℕ → List ℕ
 cleared ws = swept 0 (length ws) (λ k w. 0) ws
+
+-- whether 1,024 words of marks have so many
+unfoldable pub allMarked : List ℕ → ℕ → Bool
+allMarked ms n = eqb (length ms) 1024 && eqb (count 65536 (bitOf ms)) n
 
 -- whether two pairs share an old offset: below 65,536 by their marks, from there up by comparing
 unfoldable pub shared : List ℕ → List Pair → List ℕ → Taken

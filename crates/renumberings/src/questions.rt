@@ -6,6 +6,7 @@ use crate::steps::Task;
 use crate::steps::at_least;
 use blocks::change_blocks;
 use comparisons::is_subset;
+use range_counts::count_ones;
 use sets::FixedBitSet;
 use sets::ask_new;
 use sets::check;
@@ -19,7 +20,7 @@ ghost use Rattle.sets.specs.Questions.{first, questions, newQuestions};
 ghost use Rattle.comparisons.specs.Rules.{isSubsetRule};
 ghost use Rattle.renumberings.specs.Pairs.{sided};
 ghost use Rattle.renumberings.specs.Rules.{pairsQuestions};
-ghost use Rattle.renumberings.specs.Passes.{Taken, cleared, shared, pairsNumber};
+ghost use Rattle.renumberings.specs.Passes.{Taken, cleared, allMarked, shared, pairsNumber};
 
 // Questions 1 to 3 of the old set, then 6 and 7 of the new one.
 pub(crate) fn ask_sets(set: FixedBitSet, words: &[u64], bits: usize, out: &[u64]) -> u64
@@ -39,6 +40,17 @@ fn clear_marks(marks: &mut [u64])
     change_blocks(marks, 0, all, 0, 0);
 }
 
+// Whether 1,024 words of marks have so many.
+fn all_marked(marks: &[u64], count: usize) -> bool
+    ensures { λ r. ⌜ r ≡ allMarked (now (marks .entry)) count ⌝ }
+{
+    if marks.len() != 1024 {
+        return false;
+    }
+    let counted = count_ones(FixedBitSet::new(65536), marks, 0, 65536);
+    counted.count == count
+}
+
 // Whether two pairs share an old offset. Where none do, the marks are the old offsets below 65,536.
 pub(crate) fn shares(pairs: &[Pair], back: bool, olds: &[u64], marks: &mut [u64]) -> bool
     ensures { λ r. ⌜ record { found = r; words = now (marks .exit) } ≡ shared (now (olds .entry)) (sided back (now (pairs .entry))) (now (marks .entry)) ⌝ }
@@ -46,6 +58,10 @@ pub(crate) fn shares(pairs: &[Pair], back: bool, olds: &[u64], marks: &mut [u64]
     clear_marks(marks);
     if pass(pairs, back, Task::Mark, olds, marks) {
         return true;
+    }
+    // As many marks as pairs: no offset is from 65,536 up.
+    if all_marked(marks, pairs.len()) {
+        return false;
     }
     repeats_above(pairs, back)
 }

@@ -1,12 +1,12 @@
 -- `offset_files::bad_line` meets its contract. Assumes nothing.
 use mathlib.Core.Path.{ap, _∙_}
 use Rattle.byte_texts.specs.Texts.{written}
-use Rattle.offset_files.specs.Files.{more}
-use Rattle.offset_files.specs.Messages.{badText}
+use Rattle.text_lines.specs.Texts.{more}
+use Rattle.text_lines.specs.Messages.{badText}
 use denote.Ref.{now}
 use Prim.Native.Nat.{ℕ}
 use Rattle.offset_files.proofs.HoldsLaws.{bad-holds, bad-said, bad-unsaid}
-use Rattle.offset_files.proofs.EntryLaws.{bad-shown}
+use Rattle.text_lines.proofs.MessageLaws.{bad-shown}
 use borrow.Author.Needs.{needs}
 use Rattle.offset_files.proofs.entries.bad_line.Statement.{statement}
 use Rattle.offset_files.proofs.entries.bad_line.Tie as tie

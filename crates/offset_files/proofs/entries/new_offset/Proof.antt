@@ -4,7 +4,7 @@ use native.Mathlib.Omega.{arith}
 use denote.Ref.{now}
 use Rattle.sets.specs.declared.fixed_bit_set.FixedBitSet.{FixedBitSet}
 use Rattle.edits.specs.Rules.{insertRule}
-use Rattle.offset_files.specs.Files.{more}
+use Rattle.text_lines.specs.Texts.{more}
 use Rattle.offset_files.proofs.HoldsLaws.{new-holds}
 use borrow.Author.Needs.{needs}
 use Rattle.offset_files.proofs.entries.new_offset.Statement.{statement}

@@ -4,7 +4,7 @@ use Prim.Native.Nat.{ℕ}
 use native.Mathlib.Omega.{arith}
 use denote.Ref.{now}
 use Rattle.byte_texts.specs.Texts.{written}
-use Rattle.offset_files.specs.Files.{more}
+use Rattle.text_lines.specs.Texts.{more}
 use Rattle.offset_files.specs.Messages.{repeatText}
 use Rattle.offset_files.proofs.HoldsLaws.{second-holds, repeat-said, repeat-unsaid}
 use Rattle.offset_files.proofs.EntryLaws.{first-is}

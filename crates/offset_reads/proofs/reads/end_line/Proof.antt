@@ -2,7 +2,7 @@
 use native.Mathlib.Omega.{arith}
 use mathlib.Core.Path.{sym}
 use lib.Seq.{length-take-le}
-use Rattle.offset_reads.proofs.TextLaws.{line-room}
+use Rattle.text_lines.proofs.RestLaws.{line-room}
 use borrow.Author.Needs.{needs}
 use Rattle.offset_reads.proofs.reads.end_line.Statement.{statement}
 use Rattle.offset_reads.proofs.reads.end_line.Tie as tie

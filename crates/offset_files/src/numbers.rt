@@ -1,9 +1,0 @@
-ghost use mathlib.Core.Path.{_≡_};
-ghost use Rattle.offset_files.specs.Files.{more as moreOf};
-
-// One more, up to 2 ^ 32 - 1.
-pub(crate) fn more(n: usize) -> usize
-    ensures { λ r. ⌜ r ≡ moreOf n ⌝ }
-{
-    if n < 4294967295 { n + 1 } else { 4294967295 }
-}

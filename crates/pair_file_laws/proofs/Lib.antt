@@ -1,0 +1,5 @@
+pub mod ListLaws
+pub mod SideLaws
+pub mod KeepLaws
+pub mod GoodLaws
+pub mod RoomLaws

@@ -1,0 +1,1 @@
+// What the definition of a file of pairs comes to where no line is bad: laws, and no code.

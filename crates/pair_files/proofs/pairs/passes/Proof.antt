@@ -1,0 +1,21 @@
+-- `pair_files::passes` meets its contract. Assumes nothing.
+use borrow.Author.Tests.{eq-eqb, ne-eqb}
+use Rattle.pair_files.proofs.pairs.passes.Statement.{statement}
+use Rattle.pair_files.proofs.pairs.passes.Tie as tie
+
+returns : tie.Need-returns
+returns c = rw (ne-eqb _ 0 (c .if1 .taken))
+
+returns-2 : tie.Need-returns-2
+returns-2 c = rw (eq-eqb _ 0 (c .before .if1 .left), ne-eqb _ 0 (c .if2 .taken))
+
+returns-3 : tie.Need-returns-3
+returns-3 c = rw (eq-eqb _ 0 (c .before .if1 .left), eq-eqb _ 0 (c .if2 .left))
+
+pub passes-spec : {M : Type 1} → statement M
+passes-spec =
+    tie.close
+    (tie.spec
+    returns
+    returns-2
+    returns-3)

@@ -1,0 +1,4 @@
+pub mod SomeLaws
+pub mod ArriveLaws
+pub mod TableLaws
+pub mod Examples

@@ -1,0 +1,10 @@
+pub mod Examples
+pub mod SetLaws
+pub mod MoveLaws
+pub mod NamedLaws
+pub mod UnpairedLaws
+pub mod LineLaws
+pub mod LengthLaws
+pub mod WalkLaws
+pub mod PieceLaws
+pub mod PageLaws

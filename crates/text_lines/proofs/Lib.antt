@@ -1,0 +1,5 @@
+pub mod BodyLaws
+pub mod RestLaws
+pub mod PieceLaws
+pub mod ReportLaws
+pub mod MessageLaws
