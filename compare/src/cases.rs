@@ -1,4 +1,6 @@
-//! What the engines are asked and what they answer: calls, walks and histories as data.
+//! What the engines are asked and what they answer: calls, renumberings, walks and histories as data.
+
+use std::rc::Rc;
 
 /// A length and the words that are lent for it. The words may be more than the length needs, or fewer.
 #[derive(Clone, Debug, PartialEq, Eq)]
@@ -334,7 +336,8 @@ pub enum Direction {
 pub struct Renumbering {
     pub direction: Direction,
     pub set: Lent,
-    pub pairs: Vec<Pair>,
+    /// Shared by the copies of the input, since they can be many.
+    pub pairs: Rc<Vec<Pair>>,
     pub bits: usize,
     pub out: Vec<u64>,
     pub again: Vec<u64>,
@@ -342,10 +345,10 @@ pub struct Renumbering {
 
 impl Renumbering {
     /// The pairs from old to new as the call reads them.
-    pub fn sided(&self) -> Vec<Pair> {
+    pub fn sided(&self) -> Rc<Vec<Pair>> {
         match self.direction {
-            Direction::Back => swapped(&self.pairs),
-            _ => self.pairs.clone(),
+            Direction::Back => Rc::new(swapped(&self.pairs)),
+            _ => Rc::clone(&self.pairs),
         }
     }
 }

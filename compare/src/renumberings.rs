@@ -7,6 +7,7 @@ use crate::inputs::{random_length, random_number, random_set, set, words_of, CAL
 use crate::judge::{Difference, Judge};
 use crate::prng::Prng;
 use crate::random::damage_set;
+use std::rc::Rc;
 
 /// How far a run goes.
 pub struct Extent {
@@ -34,7 +35,7 @@ fn check(judge: &mut Judge, case: &Renumbering) -> Result<(), Difference> {
 fn whole(set: &Lent, pairs: &[Pair], bits: usize, further: usize) -> Renumbering {
     let out = vec![CALLERS; words_of(bits) + further];
     let again = vec![CALLERS; words_of(set.length) + further];
-    Renumbering { direction: Direction::Forward, set: set.clone(), pairs: pairs.to_vec(), bits, out, again }
+    Renumbering { direction: Direction::Forward, set: set.clone(), pairs: Rc::new(pairs.to_vec()), bits, out, again }
 }
 
 fn pair(old: usize, new: usize) -> Pair {
@@ -161,7 +162,8 @@ fn damaged(judge: &mut Judge) -> Result<(), Difference> {
                 for room in [0, own.saturating_sub(1), own, own + 1] {
                     for mix in 0..16 {
                         let (out, again) = (vec![CALLERS; room], vec![CALLERS; words_of(length) + room % 2 - mix % 2]);
-                        let case = Renumbering { direction: Direction::Forward, set: old.clone(), pairs: mixed(length, bits, mix), bits, out, again };
+                        let (set, pairs) = (old.clone(), Rc::new(mixed(length, bits, mix)));
+                        let case = Renumbering { direction: Direction::Forward, set, pairs, bits, out, again };
                         check(judge, &case)?;
                     }
                 }
@@ -195,11 +197,12 @@ fn any(random: &mut Prng) -> Renumbering {
     let length = random_length(random).min(2_000);
     let bits = if random.once_in(4) { length } else { random_length(random).min(2_000) };
     let further = random.below(2);
-    let mut case = whole(&random_set(random, length, further), &[], bits, further);
-    case.pairs = if random.once_in(4) { anything(random, length, bits) } else { moving(random, &mut case.set, bits) };
+    let mut set = random_set(random, length, further);
+    let mut pairs = if random.once_in(4) { anything(random, length, bits) } else { moving(random, &mut set, bits) };
     if random.once_in(3) {
-        spoil(random, &mut case.pairs, length, bits);
+        spoil(random, &mut pairs, length, bits);
     }
+    let mut case = whole(&set, &pairs, bits, further);
     if random.once_in(8) {
         damage(random, &mut case);
     }

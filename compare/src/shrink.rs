@@ -2,6 +2,7 @@
 
 use crate::cases::{Call, Case, Edit, History, Lent, Pair, Record, Renumbering, Step, WalkCase};
 use crate::inputs::trim;
+use std::rc::Rc;
 
 /// Numbers below n, the boldest first.
 fn below(n: usize) -> Vec<usize> {
@@ -196,7 +197,7 @@ pub fn case(case: &Case) -> Vec<Case> {
 fn without_pairs(case: &Renumbering, start: usize, end: usize) -> Renumbering {
     let mut smaller = case.clone();
     let sided = case.sided();
-    smaller.pairs.drain(start..end);
+    Rc::make_mut(&mut smaller.pairs).drain(start..end);
     for pair in &sided[start..end] {
         put(&mut smaller.set, pair.old, false);
     }
@@ -214,7 +215,7 @@ fn lower_pairs(case: &Renumbering) -> Vec<Renumbering> {
             .chain(below(pair.new as usize).into_iter().map(|new| (pair.old, new as u64)))
         {
             let mut other = case.clone();
-            other.pairs[k] = Pair { old, new };
+            Rc::make_mut(&mut other.pairs)[k] = Pair { old, new };
             smaller.push(other.clone());
             let (from, to) = (sided[k].old, other.sided()[k].old);
             if from != to && put(&mut other.set, from, false) {
@@ -245,7 +246,7 @@ pub fn renumbering(case: &Renumbering) -> Vec<Renumbering> {
     smaller.extend(bare(&case.out).into_iter().map(|out| Renumbering { out, ..case.clone() }));
     smaller.extend(bare(&case.again).into_iter().map(|again| Renumbering { again, ..case.clone() }));
     smaller.extend(parts(n, unit(n)).into_iter().map(|(start, end)| without_pairs(case, start, end)));
-    smaller.extend(shorter(&case.pairs, unit(n)).into_iter().map(|pairs| Renumbering { pairs, ..case.clone() }));
+    smaller.extend(shorter(&case.pairs, unit(n)).into_iter().map(|pairs| Renumbering { pairs: Rc::new(pairs), ..case.clone() }));
     smaller.extend(lents(&case.set).into_iter().map(|set| Renumbering { set, ..case.clone() }));
     smaller.extend(below(case.bits).into_iter().map(|bits| Renumbering { bits, ..case.clone() }));
     smaller.extend(lower_pairs(case));

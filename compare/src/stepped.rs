@@ -4,12 +4,13 @@
 use crate::archive::{self, step, Archive};
 use crate::cases::{swapped, Answer, Call, Case, Direction, Engine, History, Lent, Outcome, Pair, Ran, Renumbering, Step, WalkCase, Walked};
 use crate::inputs::words_of;
+use std::rc::Rc;
 
 pub struct Stepped;
 
 /// The archive's `renumber` into a buffer.
 fn renumber(set: &Lent, pairs: &[Pair], bits: usize, out: &mut Vec<u64>) -> Outcome {
-    let (set, pairs) = (set.clone(), pairs.to_vec());
+    let (set, pairs) = (set.clone(), Rc::new(pairs.to_vec()));
     let mut case = Renumbering { direction: Direction::Forward, set, pairs, bits, out: std::mem::take(out), again: Vec::new() };
     let outcome = archive::renumber(&mut case);
     *out = case.out;
