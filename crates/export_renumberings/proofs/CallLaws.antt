@@ -36,11 +36,11 @@ use Rattle.sets.proofs.answers.Edited as E
 use Rattle.sets.proofs.answers.Edited.Laws as E′
 use Rattle.sets.proofs.fixed_bit_set.FixedBitSet as F
 use Rattle.sets.proofs.fixed_bit_set.FixedBitSet.Laws as F′
-use Rattle.renumberings.specs.Rules.{renumberRule}
-use Rattle.renumberings.specs.declared.pair.Pair.{Pair}
+use Rattle.renumber_steps.specs.Rules.{renumberRule}
+use Rattle.renumber_steps.specs.declared.pair.Pair.{Pair}
 use Rattle.renumberings.proofs.Calling.{local, calls-met}
 use Rattle.renumberings.proofs.Forms.{clauses, stays, spelled, told, goes}
-use Rattle.renumberings.proofs.pair.Pair as P
+use Rattle.renumber_steps.proofs.pair.Pair as P
 use Rattle.renumberings.proofs.renumber as inner
 
 -- the code, with a call of f

@@ -1,8 +1,8 @@
-use renumberings::Pair;
+use renumber_steps::Pair;
 use renumberings::renumber_and_back;
 use sets::FixedBitSet;
 use sets::Told;
-ghost use Rattle.renumberings.specs.Promises.{AndBack};
+ghost use Rattle.renumber_steps.specs.Promises.{AndBack};
 
 #[no_mangle]
 pub extern "C" fn fbs_renumber_and_back(

@@ -1,12 +1,12 @@
-use renumberings::Pair;
+use renumber_steps::Pair;
 use renumberings::renumber;
 use renumberings::renumber_back;
 use sets::Edited;
 use sets::FixedBitSet;
 ghost use mathlib.Core.Path.{_≡_};
 ghost use Rattle.sets.specs.Outcomes.{outcome};
-ghost use Rattle.renumberings.specs.Pairs.{swapped};
-ghost use Rattle.renumberings.specs.Rules.{renumberRule};
+ghost use Rattle.renumber_steps.specs.Pairs.{swapped};
+ghost use Rattle.renumber_steps.specs.Rules.{renumberRule};
 
 #[no_mangle]
 pub extern "C" fn fbs_renumber(

@@ -9,8 +9,8 @@ use lib.Dec.{eqb, ltb}
 use lib.ListN.{length, getD, length-append}
 use Rattle.byte_texts.specs.Ascii.{ascii}
 use Rattle.edits.specs.Edits.{isIn}
-use Rattle.renumberings.specs.Pairs.{olds, news, repeats}
-use Rattle.renumberings.specs.declared.pair.Pair as Pairs
+use Rattle.renumber_steps.specs.Pairs.{olds, news, repeats}
+use Rattle.renumber_steps.specs.declared.pair.Pair as Pairs
 use Rattle.text_lines.specs.Texts.{more, bodyOf}
 use Rattle.text_lines.specs.Messages.{badText}
 use Rattle.pair_lines.specs.Lines.{pairLineOf}

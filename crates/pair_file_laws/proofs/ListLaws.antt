@@ -11,8 +11,8 @@ use Rattle.word_bits.specs.Counts.{count}
 use Rattle.word_bits.proofs.Ones.{count-le, count-none}
 use Rattle.edits.specs.Edits.{isIn}
 use Rattle.offset_file_laws.proofs.CountLaws.{count-more}
-use Rattle.renumberings.specs.Pairs.{olds, news, repeats}
-use Rattle.renumberings.specs.declared.pair.Pair.{Pair}
+use Rattle.renumber_steps.specs.Pairs.{olds, news, repeats}
+use Rattle.renumber_steps.specs.declared.pair.Pair.{Pair}
 use Rattle.pair_files.specs.Good.{isPair}
 
 pub neither : (x y : Bool) → (x || y) ≡ false → (x ≡ false) × (y ≡ false)

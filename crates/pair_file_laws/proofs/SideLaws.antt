@@ -7,7 +7,7 @@ use native.Mathlib.Omega.{arith}
 use borrow.Author.Tests.{eqb-true, eqb-false, eq-eqb, ne-eqb}
 use lib.Dec.{eqb}
 use Rattle.edits.specs.Edits.{isIn}
-use Rattle.renumberings.specs.Pairs.{repeats}
+use Rattle.renumber_steps.specs.Pairs.{repeats}
 use Rattle.pair_files.specs.Files.{withWord}
 use Rattle.pair_files.specs.Good.{hasWord, names}
 use Rattle.pair_file_laws.proofs.ListLaws.{in-more, once-more}

@@ -9,7 +9,7 @@ use Rattle.text_lines.specs.Messages.{badText}
 use Rattle.pair_lines.specs.Lines.{pairLineOf}
 use Rattle.pair_lines.specs.declared.entry.PairEntry.{PairEntry}
 use Rattle.pair_lines.specs.declared.entry.PairEntry.the-variants.{Blank, Pair, Says, NotTwoNumbers, TooLarge, CarriageReturn, TooLong, Damaged}
-use Rattle.renumberings.specs.declared.pair.Pair as Pairs
+use Rattle.renumber_steps.specs.declared.pair.Pair as Pairs
 use Rattle.pair_files.specs.Messages.{faultsText, wrongCount}
 
 -- what the lines so far say: how many they are; of each old offset and of each new one, where the first line that names it is k and names it with the offset x, k * 65536 + x,

@@ -5,8 +5,8 @@ use mathlib.Core.List.{List, [], _∷_}
 use Prim.Native.Nat.{ℕ, _%_, _<_}
 use lib.Dec.{eqb}
 use Rattle.edits.specs.Edits.{isIn}
-use Rattle.renumberings.specs.Pairs.{olds, news, repeats}
-use Rattle.renumberings.specs.declared.pair.Pair.{Pair}
+use Rattle.renumber_steps.specs.Pairs.{olds, news, repeats}
+use Rattle.renumber_steps.specs.declared.pair.Pair.{Pair}
 
 -- whether p is the old offset and q the new one of a pair
 unfoldable pub isPair : List Pair → ℕ → ℕ → Bool

@@ -9,8 +9,8 @@ use Rattle.word_bits.specs.Counts.{some}
 use Rattle.word_bits.proofs.Quantifiers.{some-no}
 use Rattle.sets.specs.Members.{Members}
 use Rattle.edits.specs.Edits.{isIn}
-use Rattle.renumberings.specs.Pairs.{olds, repeats, arrives}
-use Rattle.renumberings.specs.declared.pair.Pair.{Pair}
+use Rattle.renumber_steps.specs.Pairs.{olds, repeats, arrives}
+use Rattle.renumber_steps.specs.declared.pair.Pair.{Pair}
 use Rattle.pair_listing_laws.specs.Lists.{newOf}
 use Rattle.pair_listing_laws.proofs.SomeLaws.{some-or, some-one}
 

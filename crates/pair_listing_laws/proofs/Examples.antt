@@ -8,8 +8,8 @@ use lib.Dec.{eqb}
 use Rattle.sets.specs.Members.{read}
 use Rattle.sets.proofs.ReadLaws.{read-clipped}
 use Rattle.edits.specs.Edits.{isIn}
-use Rattle.renumberings.specs.Pairs.{olds, repeats, arrives}
-use Rattle.renumberings.specs.declared.pair.Pair.{Pair}
+use Rattle.renumber_steps.specs.Pairs.{olds, repeats, arrives}
+use Rattle.renumber_steps.specs.declared.pair.Pair.{Pair}
 use Rattle.pair_listings.specs.Tables.{allOffsets, offsetsOf, movedBy}
 use Rattle.pair_listing_laws.specs.Lists.{newOf, TableOf}
 use Rattle.pair_listing_laws.proofs.TableLaws.{moved-arrives}

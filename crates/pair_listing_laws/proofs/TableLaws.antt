@@ -14,9 +14,9 @@ use Rattle.sets.proofs.QuestionLaws.{first-both, position-below}
 use Rattle.sets.proofs.WriteLaws.{Clipped}
 use Rattle.edits.specs.Edits.{isIn}
 use Rattle.two_set_counts.specs.Lists.{positions, onesList}
-use Rattle.renumberings.specs.Pairs.{olds, news, arrives, renumbered}
-use Rattle.renumberings.specs.Rules.{membersQuestion}
-use Rattle.renumberings.specs.declared.pair.Pair.{Pair}
+use Rattle.renumber_steps.specs.Pairs.{olds, news, arrives, renumbered}
+use Rattle.renumber_steps.specs.Rules.{membersQuestion}
+use Rattle.renumber_steps.specs.declared.pair.Pair.{Pair}
 use Rattle.pair_listings.specs.Tables.{isNamed, partner, movesTo, movedBelow, movedBy, isUnpaired}
 use Rattle.pair_listing_laws.specs.Lists.{newOf, TableOf}
 use Rattle.pair_listing_laws.proofs.SomeLaws.{some-ext}

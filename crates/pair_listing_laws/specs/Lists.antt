@@ -5,8 +5,8 @@ use mathlib.Core.List.{List, [], _∷_}
 use Prim.Native.Nat.{ℕ, _%_, _<_}
 use lib.Dec.{eqb}
 use Rattle.edits.specs.Edits.{isIn}
-use Rattle.renumberings.specs.Pairs.{olds, repeats}
-use Rattle.renumberings.specs.declared.pair.Pair.{Pair}
+use Rattle.renumber_steps.specs.Pairs.{olds, repeats}
+use Rattle.renumber_steps.specs.declared.pair.Pair.{Pair}
 
 -- the new offset of the first pair whose old offset is p
 unfoldable pub newOf : List Pair → ℕ → ℕ

@@ -18,11 +18,11 @@ use Rattle.sets.proofs.ReadLaws.{read-clipped}
 use Rattle.sets.proofs.WriteLaws.{Clipped, read-write}
 use Rattle.edits.specs.Edits.{isIn}
 use Rattle.two_set_counts.specs.Lists.{onesList}
-use Rattle.renumberings.specs.Pairs.{news, renumbered, swapped}
-use Rattle.renumberings.specs.Promises.{leaves}
-use Rattle.renumberings.specs.Rules.{oldsQuestion, newsQuestion, membersQuestion, renumberQuestions, renumberRule}
-use Rattle.renumberings.specs.declared.pair.Pair.{Pair}
-use Rattle.renumberings.proofs.PairListLaws.{arrives-in}
+use Rattle.renumber_steps.specs.Pairs.{news, renumbered, swapped}
+use Rattle.renumber_steps.specs.Promises.{leaves}
+use Rattle.renumber_steps.specs.Rules.{oldsQuestion, newsQuestion, membersQuestion, renumberQuestions, renumberRule}
+use Rattle.renumber_steps.specs.declared.pair.Pair.{Pair}
+use Rattle.renumber_steps.proofs.PairListLaws.{arrives-in}
 use Rattle.pair_files.specs.Files.{pairFileOf}
 use Rattle.pair_files.specs.Good.{GoodPairs, hasWord, names}
 use Rattle.pair_file_laws.proofs.GoodLaws.{good-file}

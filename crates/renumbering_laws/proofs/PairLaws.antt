@@ -9,9 +9,9 @@ use Rattle.sets.specs.Members.{setOf, empty}
 use Rattle.sets.specs.Questions.{positionsQuestion}
 use Rattle.sets.proofs.QuestionLaws.{first-yes, position-yes}
 use Rattle.edits.specs.Edits.{isIn}
-use Rattle.renumberings.specs.Pairs.{olds, news, repeats, sidedPair, sided, swapped}
-use Rattle.renumberings.specs.declared.pair.Pair.{Pair}
-use Rattle.renumberings.proofs.PairListLaws.{swapped-olds}
+use Rattle.renumber_steps.specs.Pairs.{olds, news, repeats, sidedPair, sided, swapped}
+use Rattle.renumber_steps.specs.declared.pair.Pair.{Pair}
+use Rattle.renumber_steps.proofs.PairListLaws.{swapped-olds}
 use Rattle.pair_files.specs.Good.{isPair, GoodPairs}
 use Rattle.pair_file_laws.proofs.ListLaws.{neither}
 use Rattle.pair_file_laws.proofs.SideLaws.{absent, present}

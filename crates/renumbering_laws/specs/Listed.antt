@@ -6,10 +6,10 @@ use lib.ListN.{length}
 use Rattle.sets.specs.Members.{wordsOf}
 use Rattle.sets.specs.Questions.{newQuestions}
 use Rattle.two_set_counts.specs.Lists.{onesList}
-use Rattle.renumberings.specs.Pairs.{renumbered}
-use Rattle.renumberings.specs.Promises.{leaves}
-use Rattle.renumberings.specs.Rules.{renumberQuestions, renumberRule}
-use Rattle.renumberings.specs.declared.pair.Pair.{Pair}
+use Rattle.renumber_steps.specs.Pairs.{renumbered}
+use Rattle.renumber_steps.specs.Promises.{leaves}
+use Rattle.renumber_steps.specs.Rules.{renumberQuestions, renumberRule}
+use Rattle.renumber_steps.specs.declared.pair.Pair.{Pair}
 use Rattle.pair_listings.specs.Tables.{allOffsets, offsetsOf, movedBy}
 
 -- `size` is the new length

@@ -19,7 +19,7 @@ use denote.Triple.Walked.{Stays, stay-dropped, gave-slice, AllGo, goes-dropped, 
 use denote.Exit.{yes}
 use Rattle.sets.proofs.fixed_bit_set.FixedBitSet as F
 use Rattle.sets.proofs.fixed_bit_set.FixedBitSet.Laws as F′
-use Rattle.renumberings.proofs.pair.Pair as P
+use Rattle.renumber_steps.proofs.pair.Pair as P
 use Rattle.renumberings.proofs.renumber_and_back as back
 
 abbrev pub stays : Stays (back.signature .params) (back.ended .kept)

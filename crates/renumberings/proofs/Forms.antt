@@ -25,9 +25,9 @@ use denote.Exit.{yes}
 use Rattle.sets.specs.Outcomes.{outcome}
 use Rattle.sets.proofs.fixed_bit_set.FixedBitSet as F
 use Rattle.sets.proofs.fixed_bit_set.FixedBitSet.Laws as F′
-use Rattle.renumberings.specs.Rules.{renumberRule}
-use Rattle.renumberings.specs.declared.pair.Pair.{Pair}
-use Rattle.renumberings.proofs.pair.Pair as P
+use Rattle.renumber_steps.specs.Rules.{renumberRule}
+use Rattle.renumber_steps.specs.declared.pair.Pair.{Pair}
+use Rattle.renumber_steps.proofs.pair.Pair as P
 use Rattle.renumberings.proofs.renumber as renumber
 
 -- the contract of `renumber`, where the pairs are read by `side`

@@ -1,18 +1,5 @@
--- The laws of marks, passes and questions; the promises; what the walks over `&[Pair]` share.
-pub mod Examples
-pub mod MarkLaws
-pub mod TaskLaws
-pub mod RepeatLaws
-pub mod RunLaws
-pub mod AskLaws
-pub mod AllMarked
-pub mod PairListLaws
-pub mod CountLaws
-pub mod AcceptLaws
-pub mod PromiseLaws
-pub mod BackLaws
+-- What the walks over `&[Pair]` share.
 pub mod PairLaws
-pub mod PassLaws
 pub mod Calling
 pub mod BackForms
 pub mod Forms

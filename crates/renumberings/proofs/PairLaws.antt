@@ -25,10 +25,10 @@ use denote.Memory.{shares, pointee}
 use denote.Ref.{RefT}
 use denote.Slice.{sliceTy, sliceVal, ShrSlice, Room, shr-slice-copy}
 use denote.Struct.Laws as LL
-use Rattle.renumberings.specs.declared.pair.Pair.{Pair}
-use Rattle.renumberings.proofs.PassLaws.{none}
-use Rattle.renumberings.proofs.pair.Pair as P
-use Rattle.renumberings.proofs.pair.Pair.Laws as P′
+use Rattle.renumber_steps.specs.declared.pair.Pair.{Pair}
+use Rattle.renumber_steps.proofs.PassLaws.{none}
+use Rattle.renumber_steps.proofs.pair.Pair as P
+use Rattle.renumber_steps.proofs.pair.Pair.Laws as P′
 
 abbrev pub after : Body → Body
 after (seq a b) = b

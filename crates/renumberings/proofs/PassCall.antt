@@ -31,13 +31,13 @@ use denote.Enum.Laws as EL
 use denote.Triple.Entry.{Args, Vals, onEntry}
 use denote.Triple.Spec.{tripleOf}
 use denote.Triple.Statement.{Contract, Triple}
-use Rattle.renumberings.specs.Pairs.{sided}
-use Rattle.renumberings.specs.Passes.{passed}
+use Rattle.renumber_steps.specs.Pairs.{sided}
+use Rattle.renumber_steps.specs.Passes.{passed}
 use Rattle.renumberings.proofs.Calling.{calls-met}
 use Rattle.renumberings.proofs.Lending.{Mut}
-use Rattle.renumberings.proofs.pair.Pair as P
-use Rattle.renumberings.proofs.steps.Task as T
-use Rattle.renumberings.proofs.steps.Task.Laws as T′
+use Rattle.renumber_steps.proofs.pair.Pair as P
+use Rattle.renumber_steps.proofs.steps.Task as T
+use Rattle.renumber_steps.proofs.steps.Task.Laws as T′
 use Rattle.renumberings.proofs.passes.pass as pass
 use Rattle.renumberings.proofs.passes.pass.Symbol.{name as #pass}
 

@@ -34,12 +34,12 @@ use Rattle.sets.proofs.fixed_bit_set.FixedBitSet as F
 use Rattle.sets.proofs.fixed_bit_set.FixedBitSet.Laws as F′
 use Rattle.sets.proofs.answers.Edited as E
 use Rattle.sets.proofs.answers.Edited.Laws as E′
-use Rattle.renumberings.specs.Rules.{renumberRule}
-use Rattle.renumberings.specs.declared.pair.Pair.{Pair}
+use Rattle.renumber_steps.specs.Rules.{renumberRule}
+use Rattle.renumber_steps.specs.declared.pair.Pair.{Pair}
 use Rattle.renumberings.proofs.Calling.{calls-met}
 use Rattle.renumberings.proofs.Forms.{clauses}
 use Rattle.renumberings.proofs.Lending.{Mut, Shr}
-use Rattle.renumberings.proofs.pair.Pair as P
+use Rattle.renumber_steps.proofs.pair.Pair as P
 use Rattle.renumberings.proofs.renumber as renumber
 
 -- what is known of the callee, where the pairs are read by `side`

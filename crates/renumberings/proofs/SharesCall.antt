@@ -30,11 +30,11 @@ use denote.Steps.{owned, nothing}
 use denote.Triple.Entry.{Args, Vals, onEntry}
 use denote.Triple.Spec.{tripleOf}
 use denote.Triple.Statement.{Contract, Triple}
-use Rattle.renumberings.specs.Pairs.{sided}
-use Rattle.renumberings.specs.Passes.{shared}
+use Rattle.renumber_steps.specs.Pairs.{sided}
+use Rattle.renumber_steps.specs.Passes.{shared}
 use Rattle.renumberings.proofs.Calling.{calls-met}
 use Rattle.renumberings.proofs.Lending.{Mut}
-use Rattle.renumberings.proofs.pair.Pair as P
+use Rattle.renumber_steps.proofs.pair.Pair as P
 use Rattle.renumberings.proofs.questions.shares as shares
 use Rattle.renumberings.proofs.questions.shares.Symbol.{name as #shares}
 

@@ -1,12 +1,9 @@
-// A set moved to another layout, by a list of pairs of an old and a new offset.
+// A set moved to another layout, by a list of pairs of an old and a new offset: the functions that read the list.
 mod moves;
-mod pair;
 mod passes;
 mod questions;
 mod restores;
-mod steps;
 
 pub use moves::renumber;
 pub use moves::renumber_back;
-pub use pair::Pair;
 pub use restores::renumber_and_back;

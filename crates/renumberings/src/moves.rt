@@ -1,27 +1,17 @@
-use crate::pair::Pair;
 use crate::passes::pass;
 use crate::questions::ask_pairs;
-use crate::questions::ask_sets;
-use crate::steps::Task;
 use fresh_sets::with_capacity;
+use renumber_steps::Pair;
+use renumber_steps::Task;
+use renumber_steps::ask_sets;
+use renumber_steps::refused;
 use sets::Edited;
 use sets::FixedBitSet;
 ghost use mathlib.Core.Path.{_≡_};
 ghost use lib.ListN.{length};
-ghost use Rattle.sets.specs.Members.{setOf, empty};
 ghost use Rattle.sets.specs.Outcomes.{outcome};
-ghost use Rattle.renumberings.specs.Pairs.{sided, swapped};
-ghost use Rattle.renumberings.specs.Rules.{renumberRule};
-
-// A refused new set has length 0.
-fn refused(number: u64) -> Edited
-    ensures { λ r. ⌜ r ≡ record { number = number; set = setOf (empty 0) } ⌝ }
-{
-    Edited {
-        number,
-        set: FixedBitSet::new(0),
-    }
-}
+ghost use Rattle.renumber_steps.specs.Pairs.{sided, swapped};
+ghost use Rattle.renumber_steps.specs.Rules.{renumberRule};
 
 // Pairs are read from old to new, or back. `marks` are 1,024 words of the caller's.
 pub(crate) fn renumber_with(

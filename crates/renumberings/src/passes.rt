@@ -1,14 +1,14 @@
-use crate::pair::Pair;
-use crate::steps::Task;
-use crate::steps::Test;
-use crate::steps::is_above;
-use crate::steps::is_old;
-use crate::steps::matches_pair;
-use crate::steps::take_pair;
+use renumber_steps::Pair;
+use renumber_steps::Task;
+use renumber_steps::Test;
+use renumber_steps::is_above;
+use renumber_steps::is_old;
+use renumber_steps::matches_pair;
+use renumber_steps::take_pair;
 ghost use mathlib.Core.Path.{_≡_};
 ghost use lib.ListN.{drop};
-ghost use Rattle.renumberings.specs.Pairs.{sided, olds, repeats};
-ghost use Rattle.renumberings.specs.Passes.{Taken, found, passed, aboves};
+ghost use Rattle.renumber_steps.specs.Pairs.{sided, olds, repeats};
+ghost use Rattle.renumber_steps.specs.Passes.{Taken, found, passed, aboves};
 
 // Whether a pair from a place on meets the test.
 pub(crate) fn finds(pairs: &[Pair], from: usize, back: bool, test: Test) -> bool

@@ -1,33 +1,11 @@
 use crate::moves::renumber;
 use crate::moves::renumber_back;
-use crate::pair::Pair;
-use comparisons::eq;
-use sets::Edited;
+use renumber_steps::Pair;
+use renumber_steps::came_back;
+use renumber_steps::refuses;
 use sets::FixedBitSet;
 use sets::Told;
-ghost use mathlib.Core.Path.{_≡_};
-ghost use mathlib.Core.Bool.{false};
-ghost use Rattle.sets.specs.Outcomes.{outcome};
-ghost use Rattle.renumberings.specs.Promises.{cameBack, AndBack};
-
-// A refused call says no.
-fn refuses(number: u64) -> Told
-    ensures { λ r. ⌜ r ≡ record { number = number; yes = false } ⌝ }
-{
-    Told { number, yes: false }
-}
-
-// Whether the set that came back is the old one.
-fn came_back(set: FixedBitSet, words: &[u64], back: Edited, again: &[u64]) -> Told
-    ensures { λ r. ⌜ r ≡ cameBack set (now (words .entry)) (outcome back (now (again .entry))) ⌝ }
-{
-    let number = back.number;
-    if number != 0 {
-        return refuses(number);
-    }
-    let same = back.set;
-    eq(set, words, same, again)
-}
+ghost use Rattle.renumber_steps.specs.Promises.{AndBack};
 
 // `renumber` into `out`, then `renumber_back` of that into `again`, with the old length; tells whether the old set stands there. The number is that of the
 // call that refused: where the first did, nothing is written.

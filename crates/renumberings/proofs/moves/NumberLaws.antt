@@ -13,11 +13,11 @@ use Rattle.sets.specs.declared.answers.Edited.{Edited}
 use Rattle.sets.specs.declared.fixed_bit_set.FixedBitSet.{FixedBitSet}
 use Rattle.sets.proofs.OutcomeLaws.{edited-no, given-yes}
 use Rattle.sets.proofs.QuestionLaws.{first-no, first-yes, first-both}
-use Rattle.renumberings.specs.Passes.{Taken, passed}
-use Rattle.renumberings.specs.Rules.{pairsQuestions, renumberRule}
-use Rattle.renumberings.specs.declared.pair.Pair.{Pair}
-use Rattle.renumberings.specs.declared.steps.Task.the-variants.{Move}
-use Rattle.renumberings.proofs.AskLaws.{renumbered-by}
+use Rattle.renumber_steps.specs.Passes.{Taken, passed}
+use Rattle.renumber_steps.specs.Rules.{pairsQuestions, renumberRule}
+use Rattle.renumber_steps.specs.declared.pair.Pair.{Pair}
+use Rattle.renumber_steps.specs.declared.steps.Task.the-variants.{Move}
+use Rattle.renumber_steps.proofs.AskLaws.{renumbered-by}
 
 -- the code's test of a number
 pub not-zero : (n : ℕ) → T (not (eqb n 0)) → n ≡ 0 → ⊥

@@ -38,10 +38,10 @@ use Rattle.sets.proofs.fixed_bit_set.FixedBitSet as F
 use Rattle.sets.proofs.fixed_bit_set.FixedBitSet.Laws as F′
 use Rattle.sets.proofs.answers.Told as T
 use Rattle.sets.proofs.answers.Told.Laws as T′
-use Rattle.renumberings.specs.Promises.{AndBack}
+use Rattle.renumber_steps.specs.Promises.{AndBack}
 use Rattle.renumberings.proofs.BackForms.{stays, spelled, told, goes}
 use Rattle.renumberings.proofs.Calling.{local, calls-met}
-use Rattle.renumberings.proofs.pair.Pair as P
+use Rattle.renumber_steps.proofs.pair.Pair as P
 use Rattle.renumberings.proofs.renumber_and_back as inner
 use Rattle.renumberings.proofs.renumber_and_back.Symbol as inner-def
 use Rattle.renumberings.proofs.renumber_and_back.Met as inner-thm

@@ -11,7 +11,7 @@ use contract.Monad.{Fun}
 use contract.Running.{givenOf, tables, tablesOf}
 use denote.Triple.Spec.{tripleOf}
 use denote.Triple.Table.{entered, cited}
-use Rattle.renumberings.specs.Pairs.{sided}
+use Rattle.renumber_steps.specs.Pairs.{sided}
 use Rattle.renumberings.proofs.renumber_back.Symbol as inner-def
 use Rattle.renumberings.proofs.renumber_back.Met as inner-thm
 use Rattle.renumberings.proofs.Forms.{clauses}

@@ -52,28 +52,28 @@ use Rattle.sets.proofs.fixed_bit_set.FixedBitSet.Laws as F′
 use Rattle.fresh_sets.proofs.with_capacity as fresh
 use Rattle.fresh_sets.proofs.with_capacity.Symbol as fresh-def
 use Rattle.fresh_sets.proofs.with_capacity.Met as fresh-thm
-use Rattle.renumberings.specs.Pairs.{sided}
-use Rattle.renumberings.specs.Rules.{renumberRule}
-use Rattle.renumberings.specs.declared.pair.Pair.{Pair}
-use Rattle.renumberings.specs.declared.steps.Task.the-variants.{Move}
+use Rattle.renumber_steps.specs.Pairs.{sided}
+use Rattle.renumber_steps.specs.Rules.{renumberRule}
+use Rattle.renumber_steps.specs.declared.pair.Pair.{Pair}
+use Rattle.renumber_steps.specs.declared.steps.Task.the-variants.{Move}
 use Rattle.renumberings.proofs.Calling.{local, calls-met, if-returns}
 use Rattle.renumberings.proofs.Lending.{Mut, Shr, under, lends-mut, mut-back, lends-shr, shr-back, let-go}
 use Rattle.renumberings.proofs.PassCall.{Pass, calls-pass}
-use Rattle.renumberings.proofs.pair.Pair as P
-use Rattle.renumberings.proofs.steps.Task as T
-use Rattle.renumberings.proofs.steps.Task.Laws as T′
+use Rattle.renumber_steps.proofs.pair.Pair as P
+use Rattle.renumber_steps.proofs.steps.Task as T
+use Rattle.renumber_steps.proofs.steps.Task.Laws as T′
 use Rattle.renumberings.proofs.passes.pass.Symbol as pass-def
 use Rattle.renumberings.proofs.passes.pass.Met as pass-thm
-use Rattle.renumberings.proofs.questions.ask_sets as sets
-use Rattle.renumberings.proofs.questions.ask_sets.Symbol as sets-def
-use Rattle.renumberings.proofs.questions.ask_sets.Met as sets-thm
+use Rattle.renumber_steps.proofs.ask_sets as sets
+use Rattle.renumber_steps.proofs.ask_sets.Symbol as sets-def
+use Rattle.renumber_steps.proofs.ask_sets.Met as sets-thm
 use Rattle.renumberings.proofs.questions.ask_pairs as pairs
 use Rattle.renumberings.proofs.questions.ask_pairs.Symbol as pairs-def
 use Rattle.renumberings.proofs.questions.ask_pairs.Met as pairs-thm
 use Rattle.renumberings.proofs.moves.NumberLaws as laws
-use Rattle.renumberings.proofs.moves.refused as refused
-use Rattle.renumberings.proofs.moves.refused.Symbol as refused-def
-use Rattle.renumberings.proofs.moves.refused.Met as refused-thm
+use Rattle.renumber_steps.proofs.refused as refused
+use Rattle.renumber_steps.proofs.refused.Symbol as refused-def
+use Rattle.renumber_steps.proofs.refused.Met as refused-thm
 use Rattle.renumberings.proofs.moves.renumber_with.Key.{name as #own}
 use Rattle.renumberings.proofs.moves.renumber_with as own
 use Rattle.renumberings.proofs.moves.renumber_with.Statement as stated
@@ -286,8 +286,8 @@ renumber-with-spec 𝓤 H 𝓜 𝓖 𝓡 =
     entered 𝓤 H (tripleOf 𝓤 H (𝓖 .A) own.signature (own.spec 𝓤 H (𝓖 .A) (𝓜 .mem) (𝓡 .run)))
     (tables 𝓤 H 𝓜 𝓡 code.env .C) (tables 𝓤 H 𝓜 𝓡 code.env .Λ) #own code.function (code.unfolded 𝓤 H 𝓜 𝓡)
     (own-meets 𝓤 H (𝓖 .A) (givenOf 𝓤 H 𝓜 𝓖) (𝓜 .mem) (𝓡 .run) (tablesOf 𝓤 H 𝓜 (tables 𝓤 H 𝓜 𝓡 code.env)) (
-      cited 𝓤 H (tripleOf 𝓤 H (𝓖 .A) sets.signature (sets.spec 𝓤 H (𝓖 .A) (𝓜 .mem) (𝓡 .run))) 𝓜 𝓡 code.env sets-def.name sets-def.routine code.calls-renumberings·questions·ask-sets (sets-thm.met 𝓤 H 𝓜 𝓖 𝓡),
-      cited 𝓤 H (tripleOf 𝓤 H (𝓖 .A) refused.signature (refused.spec 𝓤 H (𝓖 .A) (𝓜 .mem) (𝓡 .run))) 𝓜 𝓡 code.env refused-def.name refused-def.routine code.calls-renumberings·moves·refused (refused-thm.met 𝓤 H 𝓜 𝓖 𝓡),
+      cited 𝓤 H (tripleOf 𝓤 H (𝓖 .A) sets.signature (sets.spec 𝓤 H (𝓖 .A) (𝓜 .mem) (𝓡 .run))) 𝓜 𝓡 code.env sets-def.name sets-def.routine code.calls-renumber-steps·ask-sets (sets-thm.met 𝓤 H 𝓜 𝓖 𝓡),
+      cited 𝓤 H (tripleOf 𝓤 H (𝓖 .A) refused.signature (refused.spec 𝓤 H (𝓖 .A) (𝓜 .mem) (𝓡 .run))) 𝓜 𝓡 code.env refused-def.name refused-def.routine code.calls-renumber-steps·refused (refused-thm.met 𝓤 H 𝓜 𝓖 𝓡),
       cited 𝓤 H (tripleOf 𝓤 H (𝓖 .A) pairs.signature (pairs.spec 𝓤 H (𝓖 .A) (𝓜 .mem) (𝓡 .run))) 𝓜 𝓡 code.env pairs-def.name pairs-def.routine code.calls-renumberings·questions·ask-pairs (pairs-thm.met 𝓤 H 𝓜 𝓖 𝓡),
       cited 𝓤 H (tripleOf 𝓤 H (𝓖 .A) fresh.signature (fresh.spec 𝓤 H (𝓖 .A) (𝓜 .mem) (𝓡 .run))) 𝓜 𝓡 code.env fresh-def.name fresh-def.routine code.calls-fresh-sets·with-capacity (fresh-thm.met 𝓤 H 𝓜 𝓖 𝓡),
       cited 𝓤 H (Pass 𝓤 H (𝓖 .A) (𝓜 .mem) (𝓡 .run)) 𝓜 𝓡 code.env pass-def.name pass-def.routine code.calls-renumberings·passes·pass (pass-thm.met 𝓤 H 𝓜 𝓖 𝓡),

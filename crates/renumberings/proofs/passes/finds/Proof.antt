@@ -43,19 +43,19 @@ use denote.Triple.Table.{entered, cited}
 use denote.Triple.Clauses.{ensured, lasts}
 use denote.Triple.Walked.{says, Stays, stay-none, stay-none-slice, walkOf, goes-none, goes-none-slice, Walks, ends-at, walked, walk-meets}
 use denote.Exit.{yes}
-use Rattle.renumberings.specs.Pairs.{sidedPair, sided}
-use Rattle.renumberings.specs.Passes.{matches, found}
-use Rattle.renumberings.specs.declared.pair.Pair.{Pair}
-use Rattle.renumberings.specs.declared.steps.Test.{Test}
-use Rattle.renumberings.proofs.PassLaws.{found-here, found-next, found-end}
+use Rattle.renumber_steps.specs.Pairs.{sidedPair, sided}
+use Rattle.renumber_steps.specs.Passes.{matches, found}
+use Rattle.renumber_steps.specs.declared.pair.Pair.{Pair}
+use Rattle.renumber_steps.specs.declared.steps.Test.{Test}
+use Rattle.renumber_steps.proofs.PassLaws.{found-here, found-next, found-end}
 use Rattle.renumberings.proofs.PairLaws.{after, Nearer, Nearer-wf, pairsTy, bytes-fit, next-fits, lent, Pairs, nth-pair, looks-pair, shuts-pair}
-use Rattle.renumberings.proofs.pair.Pair as P
-use Rattle.renumberings.proofs.pair.Pair.Laws as P′
-use Rattle.renumberings.proofs.steps.Test as E
-use Rattle.renumberings.proofs.steps.Test.Laws as E′
-use Rattle.renumberings.proofs.steps.matches_pair as callee
-use Rattle.renumberings.proofs.steps.matches_pair.Symbol as callee-def
-use Rattle.renumberings.proofs.steps.matches_pair.Met as callee-thm
+use Rattle.renumber_steps.proofs.pair.Pair as P
+use Rattle.renumber_steps.proofs.pair.Pair.Laws as P′
+use Rattle.renumber_steps.proofs.steps.Test as E
+use Rattle.renumber_steps.proofs.steps.Test.Laws as E′
+use Rattle.renumber_steps.proofs.matches_pair as callee
+use Rattle.renumber_steps.proofs.matches_pair.Symbol as callee-def
+use Rattle.renumber_steps.proofs.matches_pair.Met as callee-thm
 use Rattle.renumberings.proofs.passes.finds.Key.{name as #own}
 use Rattle.renumberings.proofs.passes.finds as own
 use Rattle.renumberings.proofs.passes.finds.Statement as stated
@@ -230,4 +230,4 @@ finds-spec 𝓤 H 𝓜 𝓖 𝓡 =
     entered 𝓤 H (tripleOf 𝓤 H (𝓖 .A) own.signature (own.spec 𝓤 H (𝓖 .A) (𝓜 .mem) (𝓡 .run)))
     (tables 𝓤 H 𝓜 𝓡 code.env .C) (tables 𝓤 H 𝓜 𝓡 code.env .Λ) #own code.function (code.unfolded 𝓤 H 𝓜 𝓡)
     (own-meets 𝓤 H (𝓖 .A) (givenOf 𝓤 H 𝓜 𝓖) (𝓜 .mem) (𝓡 .run) (tablesOf 𝓤 H 𝓜 (tables 𝓤 H 𝓜 𝓡 code.env))
-    (cited 𝓤 H (Match 𝓤 H (𝓖 .A) (𝓜 .mem) (𝓡 .run)) 𝓜 𝓡 code.env callee-def.name callee-def.routine code.calls-renumberings·steps·matches-pair (callee-thm.met 𝓤 H 𝓜 𝓖 𝓡)))
+    (cited 𝓤 H (Match 𝓤 H (𝓖 .A) (𝓜 .mem) (𝓡 .run)) 𝓜 𝓡 code.env callee-def.name callee-def.routine code.calls-renumber-steps·matches-pair (callee-thm.met 𝓤 H 𝓜 𝓖 𝓡)))

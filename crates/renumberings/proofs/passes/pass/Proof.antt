@@ -43,20 +43,20 @@ use denote.Triple.Table.{entered, cited}
 use denote.Triple.Clauses.{ensured, lasts}
 use denote.Triple.Walked.{says, Stays, stay-none, stay-none-slice, stay-slice, walkOf, goes-none, goes-none-slice, goes-slice, Walks, ends-at, walked, walk-meets}
 use denote.Exit.{yes}
-use Rattle.renumberings.specs.Pairs.{sidedPair}
-use Rattle.renumberings.specs.Passes.{Taken, taken}
-use Rattle.renumberings.specs.declared.pair.Pair.{Pair}
-use Rattle.renumberings.specs.declared.steps.Task.{Task}
-use Rattle.renumberings.proofs.PassLaws.{passedFrom, passed-here, passed-next, passed-end}
+use Rattle.renumber_steps.specs.Pairs.{sidedPair}
+use Rattle.renumber_steps.specs.Passes.{Taken, taken}
+use Rattle.renumber_steps.specs.declared.pair.Pair.{Pair}
+use Rattle.renumber_steps.specs.declared.steps.Task.{Task}
+use Rattle.renumber_steps.proofs.PassLaws.{passedFrom, passed-here, passed-next, passed-end}
 use Rattle.renumberings.proofs.PairLaws.{after, Nearer, Nearer-wf, pairsTy, bytes-fit, next-fits, lent, Pairs, nth-pair, looks-pair, shuts-pair}
 use Rattle.renumberings.proofs.Lending.{Mut, under, lends-mut, mut-back}
-use Rattle.renumberings.proofs.pair.Pair as P
-use Rattle.renumberings.proofs.pair.Pair.Laws as P′
-use Rattle.renumberings.proofs.steps.Task as E
-use Rattle.renumberings.proofs.steps.Task.Laws as E′
-use Rattle.renumberings.proofs.steps.take_pair as callee
-use Rattle.renumberings.proofs.steps.take_pair.Symbol as callee-def
-use Rattle.renumberings.proofs.steps.take_pair.Met as callee-thm
+use Rattle.renumber_steps.proofs.pair.Pair as P
+use Rattle.renumber_steps.proofs.pair.Pair.Laws as P′
+use Rattle.renumber_steps.proofs.steps.Task as E
+use Rattle.renumber_steps.proofs.steps.Task.Laws as E′
+use Rattle.renumber_steps.proofs.take_pair as callee
+use Rattle.renumber_steps.proofs.take_pair.Symbol as callee-def
+use Rattle.renumber_steps.proofs.take_pair.Met as callee-thm
 use Rattle.renumberings.proofs.passes.pass.Key.{name as #own}
 use Rattle.renumberings.proofs.passes.pass as own
 use Rattle.renumberings.proofs.passes.pass.Statement as stated
@@ -306,4 +306,4 @@ pass-spec 𝓤 H 𝓜 𝓖 𝓡 =
     entered 𝓤 H (tripleOf 𝓤 H (𝓖 .A) own.signature (own.spec 𝓤 H (𝓖 .A) (𝓜 .mem) (𝓡 .run)))
     (tables 𝓤 H 𝓜 𝓡 code.env .C) (tables 𝓤 H 𝓜 𝓡 code.env .Λ) #own code.function (code.unfolded 𝓤 H 𝓜 𝓡)
     (own-meets 𝓤 H (𝓖 .A) (givenOf 𝓤 H 𝓜 𝓖) (𝓜 .mem) (𝓡 .run) (tablesOf 𝓤 H 𝓜 (tables 𝓤 H 𝓜 𝓡 code.env))
-    (cited 𝓤 H (Take 𝓤 H (𝓖 .A) (𝓜 .mem) (𝓡 .run)) 𝓜 𝓡 code.env callee-def.name callee-def.routine code.calls-renumberings·steps·take-pair (callee-thm.met 𝓤 H 𝓜 𝓖 𝓡)))
+    (cited 𝓤 H (Take 𝓤 H (𝓖 .A) (𝓜 .mem) (𝓡 .run)) 𝓜 𝓡 code.env callee-def.name callee-def.routine code.calls-renumber-steps·take-pair (callee-thm.met 𝓤 H 𝓜 𝓖 𝓡)))

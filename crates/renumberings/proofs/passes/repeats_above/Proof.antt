@@ -43,23 +43,23 @@ use denote.Triple.Table.{entered, cited}
 use denote.Triple.Clauses.{ensured, lasts}
 use denote.Triple.Walked.{says, Stays, stay-none, stay-none-slice, walkOf, goes-none, goes-none-slice, Walks, ends-at, walked, walk-meets}
 use denote.Exit.{yes}
-use Rattle.renumberings.specs.Pairs.{sidedPair, sided}
-use Rattle.renumberings.specs.Passes.{matches, found}
-use Rattle.renumberings.specs.declared.pair.Pair.{Pair}
-use Rattle.renumberings.specs.declared.steps.Test.{Test}
-use Rattle.renumberings.specs.declared.steps.Test.the-variants.{Is as Equals, AtLeast}
-use Rattle.renumberings.proofs.PassLaws.{repeated, repeated-here, repeated-next, repeated-below, repeated-end}
+use Rattle.renumber_steps.specs.Pairs.{sidedPair, sided}
+use Rattle.renumber_steps.specs.Passes.{matches, found}
+use Rattle.renumber_steps.specs.declared.pair.Pair.{Pair}
+use Rattle.renumber_steps.specs.declared.steps.Test.{Test}
+use Rattle.renumber_steps.specs.declared.steps.Test.the-variants.{Is as Equals, AtLeast}
+use Rattle.renumber_steps.proofs.PassLaws.{repeated, repeated-here, repeated-next, repeated-below, repeated-end}
 use Rattle.renumberings.proofs.PairLaws.{after, Nearer, Nearer-wf, pairsTy, bytes-fit, next-fits, lent, Pairs, nth-pair, looks-pair, shuts-pair}
-use Rattle.renumberings.proofs.pair.Pair as P
-use Rattle.renumberings.proofs.pair.Pair.Laws as P′
-use Rattle.renumberings.proofs.steps.Test as E
-use Rattle.renumberings.proofs.steps.Test.Laws as E′
-use Rattle.renumberings.proofs.steps.is_above as above
-use Rattle.renumberings.proofs.steps.is_above.Symbol as above-def
-use Rattle.renumberings.proofs.steps.is_above.Met as above-thm
-use Rattle.renumberings.proofs.steps.is_old as old
-use Rattle.renumberings.proofs.steps.is_old.Symbol as old-def
-use Rattle.renumberings.proofs.steps.is_old.Met as old-thm
+use Rattle.renumber_steps.proofs.pair.Pair as P
+use Rattle.renumber_steps.proofs.pair.Pair.Laws as P′
+use Rattle.renumber_steps.proofs.steps.Test as E
+use Rattle.renumber_steps.proofs.steps.Test.Laws as E′
+use Rattle.renumber_steps.proofs.is_above as above
+use Rattle.renumber_steps.proofs.is_above.Symbol as above-def
+use Rattle.renumber_steps.proofs.is_above.Met as above-thm
+use Rattle.renumber_steps.proofs.is_old as old
+use Rattle.renumber_steps.proofs.is_old.Symbol as old-def
+use Rattle.renumber_steps.proofs.is_old.Met as old-thm
 use Rattle.renumberings.proofs.passes.finds as finds
 use Rattle.renumberings.proofs.passes.finds.Symbol as finds-def
 use Rattle.renumberings.proofs.passes.finds.Met as finds-thm
@@ -273,6 +273,6 @@ repeats-above-spec 𝓤 H 𝓜 𝓖 𝓡 =
     entered 𝓤 H (tripleOf 𝓤 H (𝓖 .A) own.signature (own.spec 𝓤 H (𝓖 .A) (𝓜 .mem) (𝓡 .run)))
     (tables 𝓤 H 𝓜 𝓡 code.env .C) (tables 𝓤 H 𝓜 𝓡 code.env .Λ) #own code.function (code.unfolded 𝓤 H 𝓜 𝓡)
     (own-meets 𝓤 H (𝓖 .A) (givenOf 𝓤 H 𝓜 𝓖) (𝓜 .mem) (𝓡 .run) (tablesOf 𝓤 H 𝓜 (tables 𝓤 H 𝓜 𝓡 code.env))
-    (cited 𝓤 H (Above 𝓤 H (𝓖 .A) (𝓜 .mem) (𝓡 .run)) 𝓜 𝓡 code.env above-def.name above-def.routine code.calls-renumberings·steps·is-above (above-thm.met 𝓤 H 𝓜 𝓖 𝓡))
-    (cited 𝓤 H (Old 𝓤 H (𝓖 .A) (𝓜 .mem) (𝓡 .run)) 𝓜 𝓡 code.env old-def.name old-def.routine code.calls-renumberings·steps·is-old (old-thm.met 𝓤 H 𝓜 𝓖 𝓡))
+    (cited 𝓤 H (Above 𝓤 H (𝓖 .A) (𝓜 .mem) (𝓡 .run)) 𝓜 𝓡 code.env above-def.name above-def.routine code.calls-renumber-steps·is-above (above-thm.met 𝓤 H 𝓜 𝓖 𝓡))
+    (cited 𝓤 H (Old 𝓤 H (𝓖 .A) (𝓜 .mem) (𝓡 .run)) 𝓜 𝓡 code.env old-def.name old-def.routine code.calls-renumber-steps·is-old (old-thm.met 𝓤 H 𝓜 𝓖 𝓡))
     (cited 𝓤 H (Finds 𝓤 H (𝓖 .A) (𝓜 .mem) (𝓡 .run)) 𝓜 𝓡 code.env finds-def.name finds-def.routine code.calls-renumberings·passes·finds (finds-thm.met 𝓤 H 𝓜 𝓖 𝓡)))

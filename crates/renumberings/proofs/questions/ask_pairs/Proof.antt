@@ -45,34 +45,34 @@ use Rattle.sets.specs.declared.fixed_bit_set.FixedBitSet.{FixedBitSet}
 use Rattle.sets.proofs.fixed_bit_set.FixedBitSet as F
 use Rattle.sets.proofs.fixed_bit_set.FixedBitSet.Laws as F′
 use Rattle.comparisons.specs.Rules.{isSubsetRule}
-use Rattle.renumberings.specs.Pairs.{sided}
-use Rattle.renumberings.specs.Rules.{pairsQuestions}
-use Rattle.renumberings.specs.Passes.{Taken, found, shared, pairsNumber}
-use Rattle.renumberings.specs.declared.pair.Pair.{Pair}
-use Rattle.renumberings.specs.declared.steps.Test.{Test}
-use Rattle.renumberings.specs.declared.steps.Test.the-variants.{AtLeast}
-use Rattle.renumberings.proofs.AskLaws.{asked-pairs}
+use Rattle.renumber_steps.specs.Pairs.{sided}
+use Rattle.renumber_steps.specs.Rules.{pairsQuestions}
+use Rattle.renumber_steps.specs.Passes.{Taken, found, shared, pairsNumber}
+use Rattle.renumber_steps.specs.declared.pair.Pair.{Pair}
+use Rattle.renumber_steps.specs.declared.steps.Test.{Test}
+use Rattle.renumber_steps.specs.declared.steps.Test.the-variants.{AtLeast}
+use Rattle.renumber_steps.proofs.AskLaws.{asked-pairs}
 use Rattle.renumberings.proofs.Calling.{local, calls-met}
 use Rattle.renumberings.proofs.Forms.{sided-stays, sided-spelled, sided-told, sided-goes}
 use Rattle.renumberings.proofs.Lending.{Shr, under, lends-mut, mut-back, lends-shr, shr-back}
 use Rattle.renumberings.proofs.SharesCall.{Asked, calls-shares}
-use Rattle.renumberings.proofs.pair.Pair as P
-use Rattle.renumberings.proofs.steps.Test as T
-use Rattle.renumberings.proofs.steps.Test.Laws as T′
-use Rattle.renumberings.proofs.steps.at_least as least
-use Rattle.renumberings.proofs.steps.at_least.Symbol as least-def
-use Rattle.renumberings.proofs.steps.at_least.Met as least-thm
+use Rattle.renumber_steps.proofs.pair.Pair as P
+use Rattle.renumber_steps.proofs.steps.Test as T
+use Rattle.renumber_steps.proofs.steps.Test.Laws as T′
+use Rattle.renumber_steps.proofs.at_least as least
+use Rattle.renumber_steps.proofs.at_least.Symbol as least-def
+use Rattle.renumber_steps.proofs.at_least.Met as least-thm
 use Rattle.renumberings.proofs.passes.finds as finds
 use Rattle.renumberings.proofs.passes.finds.Symbol as finds-def
 use Rattle.renumberings.proofs.passes.finds.Met as finds-thm
 use Rattle.renumberings.proofs.questions.shares.Symbol as shares-def
 use Rattle.renumberings.proofs.questions.shares.Met as shares-thm
-use Rattle.renumberings.proofs.questions.members_marked as marked
-use Rattle.renumberings.proofs.questions.members_marked.Symbol as marked-def
-use Rattle.renumberings.proofs.questions.members_marked.Met as marked-thm
-use Rattle.renumberings.proofs.questions.pairs_number as number
-use Rattle.renumberings.proofs.questions.pairs_number.Symbol as number-def
-use Rattle.renumberings.proofs.questions.pairs_number.Met as number-thm
+use Rattle.renumber_steps.proofs.members_marked as marked
+use Rattle.renumber_steps.proofs.members_marked.Symbol as marked-def
+use Rattle.renumber_steps.proofs.members_marked.Met as marked-thm
+use Rattle.renumber_steps.proofs.pairs_number as number
+use Rattle.renumber_steps.proofs.pairs_number.Symbol as number-def
+use Rattle.renumber_steps.proofs.pairs_number.Met as number-thm
 use Rattle.renumberings.proofs.questions.ask_pairs.Key.{name as #own}
 use Rattle.renumberings.proofs.questions.ask_pairs as own
 use Rattle.renumberings.proofs.questions.ask_pairs.Statement as stated
@@ -255,8 +255,8 @@ ask-pairs-spec 𝓤 H 𝓜 𝓖 𝓡 =
     (tables 𝓤 H 𝓜 𝓡 code.env .C) (tables 𝓤 H 𝓜 𝓡 code.env .Λ) #own code.function (code.unfolded 𝓤 H 𝓜 𝓡)
     (own-meets 𝓤 H (𝓖 .A) (givenOf 𝓤 H 𝓜 𝓖) (𝓜 .mem) (𝓡 .run) (tablesOf 𝓤 H 𝓜 (tables 𝓤 H 𝓜 𝓡 code.env)) (
       cited 𝓤 H (Asked 𝓤 H (𝓖 .A) (𝓜 .mem) (𝓡 .run)) 𝓜 𝓡 code.env shares-def.name shares-def.routine code.calls-renumberings·questions·shares (shares-thm.met 𝓤 H 𝓜 𝓖 𝓡),
-      cited 𝓤 H (tripleOf 𝓤 H (𝓖 .A) marked.signature (marked.spec 𝓤 H (𝓖 .A) (𝓜 .mem) (𝓡 .run))) 𝓜 𝓡 code.env marked-def.name marked-def.routine code.calls-renumberings·questions·members-marked (marked-thm.met 𝓤 H 𝓜 𝓖 𝓡),
-      cited 𝓤 H (tripleOf 𝓤 H (𝓖 .A) least.signature (least.spec 𝓤 H (𝓖 .A) (𝓜 .mem) (𝓡 .run))) 𝓜 𝓡 code.env least-def.name least-def.routine code.calls-renumberings·steps·at-least (least-thm.met 𝓤 H 𝓜 𝓖 𝓡),
+      cited 𝓤 H (tripleOf 𝓤 H (𝓖 .A) marked.signature (marked.spec 𝓤 H (𝓖 .A) (𝓜 .mem) (𝓡 .run))) 𝓜 𝓡 code.env marked-def.name marked-def.routine code.calls-renumber-steps·members-marked (marked-thm.met 𝓤 H 𝓜 𝓖 𝓡),
+      cited 𝓤 H (tripleOf 𝓤 H (𝓖 .A) least.signature (least.spec 𝓤 H (𝓖 .A) (𝓜 .mem) (𝓡 .run))) 𝓜 𝓡 code.env least-def.name least-def.routine code.calls-renumber-steps·at-least (least-thm.met 𝓤 H 𝓜 𝓖 𝓡),
       cited 𝓤 H (tripleOf 𝓤 H (𝓖 .A) finds.signature (finds.spec 𝓤 H (𝓖 .A) (𝓜 .mem) (𝓡 .run))) 𝓜 𝓡 code.env finds-def.name finds-def.routine code.calls-renumberings·passes·finds (finds-thm.met 𝓤 H 𝓜 𝓖 𝓡),
-      cited 𝓤 H (tripleOf 𝓤 H (𝓖 .A) number.signature (number.spec 𝓤 H (𝓖 .A) (𝓜 .mem) (𝓡 .run))) 𝓜 𝓡 code.env number-def.name number-def.routine code.calls-renumberings·questions·pairs-number (number-thm.met 𝓤 H 𝓜 𝓖 𝓡),
+      cited 𝓤 H (tripleOf 𝓤 H (𝓖 .A) number.signature (number.spec 𝓤 H (𝓖 .A) (𝓜 .mem) (𝓡 .run))) 𝓜 𝓡 code.env number-def.name number-def.routine code.calls-renumber-steps·pairs-number (number-thm.met 𝓤 H 𝓜 𝓖 𝓡),
     ))

@@ -39,28 +39,28 @@ use denote.Triple.Spec.{Meets, tripleOf}
 use denote.Triple.Table.{entered, cited}
 use denote.Triple.Walked.{says, Stays, stay-dropped, gave-slice, walkOf, goes-dropped, goes-gave-slice, Walks, ends-at, walked, walk-meets}
 use denote.Exit.{yes}
-use Rattle.renumberings.specs.Pairs.{sided, repeats, olds}
-use Rattle.renumberings.specs.Passes.{Taken, passed, cleared, allMarked, shared, aboves}
-use Rattle.renumberings.specs.declared.pair.Pair.{Pair}
-use Rattle.renumberings.specs.declared.steps.Task.the-variants.{Mark}
+use Rattle.renumber_steps.specs.Pairs.{sided, repeats, olds}
+use Rattle.renumber_steps.specs.Passes.{Taken, passed, cleared, allMarked, shared, aboves}
+use Rattle.renumber_steps.specs.declared.pair.Pair.{Pair}
+use Rattle.renumber_steps.specs.declared.steps.Task.the-variants.{Mark}
 use Rattle.renumberings.proofs.Calling.{local, calls-met, if-returns}
-use Rattle.renumberings.proofs.AllMarked.{none-shared}
+use Rattle.renumber_steps.proofs.AllMarked.{none-shared}
 use Rattle.renumberings.proofs.Lending.{Mut, Shr, under, lends-mut, mut-back, lends-shr, shr-back, let-go}
 use Rattle.renumberings.proofs.PassCall.{Pass, calls-pass}
-use Rattle.renumberings.proofs.pair.Pair as P
-use Rattle.renumberings.proofs.steps.Task as T
-use Rattle.renumberings.proofs.steps.Task.Laws as T′
+use Rattle.renumber_steps.proofs.pair.Pair as P
+use Rattle.renumber_steps.proofs.steps.Task as T
+use Rattle.renumber_steps.proofs.steps.Task.Laws as T′
 use Rattle.renumberings.proofs.passes.pass.Symbol as pass-def
 use Rattle.renumberings.proofs.passes.pass.Met as pass-thm
 use Rattle.renumberings.proofs.passes.repeats_above as above
 use Rattle.renumberings.proofs.passes.repeats_above.Symbol as above-def
 use Rattle.renumberings.proofs.passes.repeats_above.Met as above-thm
-use Rattle.renumberings.proofs.questions.all_marked as all
-use Rattle.renumberings.proofs.questions.all_marked.Symbol as all-def
-use Rattle.renumberings.proofs.questions.all_marked.Met as all-thm
-use Rattle.renumberings.proofs.questions.clear_marks as clear
-use Rattle.renumberings.proofs.questions.clear_marks.Symbol as clear-def
-use Rattle.renumberings.proofs.questions.clear_marks.Met as clear-thm
+use Rattle.renumber_steps.proofs.all_marked as all
+use Rattle.renumber_steps.proofs.all_marked.Symbol as all-def
+use Rattle.renumber_steps.proofs.all_marked.Met as all-thm
+use Rattle.renumber_steps.proofs.clear_marks as clear
+use Rattle.renumber_steps.proofs.clear_marks.Symbol as clear-def
+use Rattle.renumber_steps.proofs.clear_marks.Met as clear-thm
 use Rattle.renumberings.proofs.questions.shares.Key.{name as #own}
 use Rattle.renumberings.proofs.questions.shares as own
 use Rattle.renumberings.proofs.questions.shares.Statement as stated
@@ -238,8 +238,8 @@ shares-spec 𝓤 H 𝓜 𝓖 𝓡 =
     entered 𝓤 H (tripleOf 𝓤 H (𝓖 .A) own.signature (own.spec 𝓤 H (𝓖 .A) (𝓜 .mem) (𝓡 .run)))
     (tables 𝓤 H 𝓜 𝓡 code.env .C) (tables 𝓤 H 𝓜 𝓡 code.env .Λ) #own code.function (code.unfolded 𝓤 H 𝓜 𝓡)
     (own-meets 𝓤 H (𝓖 .A) (givenOf 𝓤 H 𝓜 𝓖) (𝓜 .mem) (𝓡 .run) (tablesOf 𝓤 H 𝓜 (tables 𝓤 H 𝓜 𝓡 code.env)) (
-      cited 𝓤 H (tripleOf 𝓤 H (𝓖 .A) clear.signature (clear.spec 𝓤 H (𝓖 .A) (𝓜 .mem) (𝓡 .run))) 𝓜 𝓡 code.env clear-def.name clear-def.routine code.calls-renumberings·questions·clear-marks (clear-thm.met 𝓤 H 𝓜 𝓖 𝓡),
+      cited 𝓤 H (tripleOf 𝓤 H (𝓖 .A) clear.signature (clear.spec 𝓤 H (𝓖 .A) (𝓜 .mem) (𝓡 .run))) 𝓜 𝓡 code.env clear-def.name clear-def.routine code.calls-renumber-steps·clear-marks (clear-thm.met 𝓤 H 𝓜 𝓖 𝓡),
       cited 𝓤 H (Pass 𝓤 H (𝓖 .A) (𝓜 .mem) (𝓡 .run)) 𝓜 𝓡 code.env pass-def.name pass-def.routine code.calls-renumberings·passes·pass (pass-thm.met 𝓤 H 𝓜 𝓖 𝓡),
-      cited 𝓤 H (tripleOf 𝓤 H (𝓖 .A) all.signature (all.spec 𝓤 H (𝓖 .A) (𝓜 .mem) (𝓡 .run))) 𝓜 𝓡 code.env all-def.name all-def.routine code.calls-renumberings·questions·all-marked (all-thm.met 𝓤 H 𝓜 𝓖 𝓡),
+      cited 𝓤 H (tripleOf 𝓤 H (𝓖 .A) all.signature (all.spec 𝓤 H (𝓖 .A) (𝓜 .mem) (𝓡 .run))) 𝓜 𝓡 code.env all-def.name all-def.routine code.calls-renumber-steps·all-marked (all-thm.met 𝓤 H 𝓜 𝓖 𝓡),
       cited 𝓤 H (tripleOf 𝓤 H (𝓖 .A) above.signature (above.spec 𝓤 H (𝓖 .A) (𝓜 .mem) (𝓡 .run))) 𝓜 𝓡 code.env above-def.name above-def.routine code.calls-renumberings·passes·repeats-above (above-thm.met 𝓤 H 𝓜 𝓖 𝓡),
     ))

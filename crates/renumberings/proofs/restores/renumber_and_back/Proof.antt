@@ -49,26 +49,26 @@ use Rattle.sets.proofs.answers.Edited as E
 use Rattle.sets.proofs.answers.Edited.Laws as E′
 use Rattle.sets.proofs.answers.Told as T
 use Rattle.sets.proofs.answers.Told.Laws as T′
-use Rattle.renumberings.specs.Pairs.{swapped}
-use Rattle.renumberings.specs.Rules.{renumberRule}
-use Rattle.renumberings.specs.Promises.{cameBack, wayBack, AndBack}
-use Rattle.renumberings.specs.declared.pair.Pair.{Pair}
+use Rattle.renumber_steps.specs.Pairs.{swapped}
+use Rattle.renumber_steps.specs.Rules.{renumberRule}
+use Rattle.renumber_steps.specs.Promises.{cameBack, wayBack, AndBack}
+use Rattle.renumber_steps.specs.declared.pair.Pair.{Pair}
 use Rattle.renumberings.proofs.BackForms.{stays, spelled, told, goes}
-use Rattle.renumberings.proofs.BackLaws.{and-back-no, and-back-yes}
+use Rattle.renumber_steps.proofs.BackLaws.{and-back-no, and-back-yes}
 use Rattle.renumberings.proofs.Calling.{local, calls-met, if-returns}
 use Rattle.renumberings.proofs.Lending.{Mut, Shr, under, lends-mut, mut-back, lends-shr, shr-back, let-go}
 use Rattle.renumberings.proofs.RenumberCall.{Renumber, calls-renumber}
-use Rattle.renumberings.proofs.pair.Pair as P
+use Rattle.renumber_steps.proofs.pair.Pair as P
 use Rattle.renumberings.proofs.moves.renumber.Symbol as there-def
 use Rattle.renumberings.proofs.moves.renumber.Met as there-thm
 use Rattle.renumberings.proofs.moves.renumber_back.Symbol as back-def
 use Rattle.renumberings.proofs.moves.renumber_back.Met as back-thm
-use Rattle.renumberings.proofs.restores.refuses as refuses
-use Rattle.renumberings.proofs.restores.refuses.Symbol as refuses-def
-use Rattle.renumberings.proofs.restores.refuses.Met as refuses-thm
-use Rattle.renumberings.proofs.restores.came_back as came
-use Rattle.renumberings.proofs.restores.came_back.Symbol as came-def
-use Rattle.renumberings.proofs.restores.came_back.Met as came-thm
+use Rattle.renumber_steps.proofs.refuses as refuses
+use Rattle.renumber_steps.proofs.refuses.Symbol as refuses-def
+use Rattle.renumber_steps.proofs.refuses.Met as refuses-thm
+use Rattle.renumber_steps.proofs.came_back as came
+use Rattle.renumber_steps.proofs.came_back.Symbol as came-def
+use Rattle.renumber_steps.proofs.came_back.Met as came-thm
 use Rattle.renumberings.proofs.restores.renumber_and_back.Key.{name as #own}
 use Rattle.renumberings.proofs.restores.renumber_and_back as own
 use Rattle.renumberings.proofs.restores.renumber_and_back.Statement as stated
@@ -234,6 +234,6 @@ renumber-and-back-spec 𝓤 H 𝓜 𝓖 𝓡 =
     (own-meets 𝓤 H (𝓖 .A) (givenOf 𝓤 H 𝓜 𝓖) (𝓜 .mem) (𝓡 .run) (tablesOf 𝓤 H 𝓜 (tables 𝓤 H 𝓜 𝓡 code.env)) (
       cited 𝓤 H (Renumber 𝓤 H (𝓖 .A) (λ ps. ps)) 𝓜 𝓡 code.env there-def.name there-def.routine code.calls-renumberings·moves·renumber (there-thm.met 𝓤 H 𝓜 𝓖 𝓡),
       cited 𝓤 H (Renumber 𝓤 H (𝓖 .A) swapped) 𝓜 𝓡 code.env back-def.name back-def.routine code.calls-renumberings·moves·renumber-back (back-thm.met 𝓤 H 𝓜 𝓖 𝓡),
-      cited 𝓤 H (tripleOf 𝓤 H (𝓖 .A) refuses.signature (refuses.spec 𝓤 H (𝓖 .A) (𝓜 .mem) (𝓡 .run))) 𝓜 𝓡 code.env refuses-def.name refuses-def.routine code.calls-renumberings·restores·refuses (refuses-thm.met 𝓤 H 𝓜 𝓖 𝓡),
-      cited 𝓤 H (tripleOf 𝓤 H (𝓖 .A) came.signature (came.spec 𝓤 H (𝓖 .A) (𝓜 .mem) (𝓡 .run))) 𝓜 𝓡 code.env came-def.name came-def.routine code.calls-renumberings·restores·came-back (came-thm.met 𝓤 H 𝓜 𝓖 𝓡),
+      cited 𝓤 H (tripleOf 𝓤 H (𝓖 .A) refuses.signature (refuses.spec 𝓤 H (𝓖 .A) (𝓜 .mem) (𝓡 .run))) 𝓜 𝓡 code.env refuses-def.name refuses-def.routine code.calls-renumber-steps·refuses (refuses-thm.met 𝓤 H 𝓜 𝓖 𝓡),
+      cited 𝓤 H (tripleOf 𝓤 H (𝓖 .A) came.signature (came.spec 𝓤 H (𝓖 .A) (𝓜 .mem) (𝓡 .run))) 𝓜 𝓡 code.env came-def.name came-def.routine code.calls-renumber-steps·came-back (came-thm.met 𝓤 H 𝓜 𝓖 𝓡),
     ))
