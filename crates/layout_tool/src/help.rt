@@ -106,7 +106,7 @@ Lists the offsets of FILE, rising, one a line. The last line is `# complete: N o
             b"layout renumber PAIRS OLD --length N\n\
 Lists the new offset of each offset of OLD, rising, and the last line of a list. PAIRS has an old offset and its new one on each line; N is the new length, 0 to 65536.\n\
 With --pairs: a line `old new` for each offset of OLD, by old offset. With --back: the pairs for the way back, a line `new old` for each pair of PAIRS, by new offset.\n\
-Refused, with all lines that are at fault: two pairs with one old offset, two with one new offset, a new offset that is not below N, an offset of OLD with no pair.\n",
+Refused, with the lines that are at fault, the first 20 of them and how many more: two pairs with one old offset, two with one new offset, a new offset that is not below N, an offset of OLD with no pair. OLD is read once PAIRS may be used.\n",
             out,
             err,
         );

@@ -5,7 +5,7 @@ use offset_lines::read_digits;
 use offset_lines::starts_with;
 use tool_files::part;
 
-// What the options ask for, the length that is named, 65,537 where none is or where it is no number up to 65,536, how many words are no options, and how many of
+// What the options ask for, the length that is named, 65,537 where none or more than one is or where it is no number up to 65,536, how many words are no options, and how many of
 // those are `-`.
 pub(crate) struct Options {
     pub count: bool,
@@ -114,6 +114,14 @@ fn number_of(word: &[u8]) -> usize {
     whole_number(word, 10)
 }
 
+// The length that the command line names, 65,537 where it names none or more than one.
+fn length_of(text: &[u8]) -> usize {
+    if count_words(text, true, b"--length") != 1 {
+        return 65537;
+    }
+    number_of(length_word(text))
+}
+
 fn whole_number(digits: &[u8], base: u8) -> usize {
     let read = read_digits(digits, base);
     let count = read.count;
@@ -135,7 +143,7 @@ pub(crate) fn options_of(text: &[u8]) -> Options {
         allow_empty: has_option(text, b"--allow-empty"),
         pairs: has_option(text, b"--pairs"),
         back: has_option(text, b"--back"),
-        length: number_of(length_word(text)),
+        length: length_of(text),
         help: has_option(text, b"--help"),
         version: has_option(text, b"--version"),
         operands: count_words(text, false, b""),

@@ -6,6 +6,9 @@ use sets::Position;
 use tool_files::part;
 use tool_files::tell_number;
 use tool_files::write_whole;
+ghost use mathlib.Core.Path.{_≡_};
+ghost use mathlib.Core.Bool.{true};
+ghost use Rattle.pair_listings.specs.Tables.{entryOf, offsetsOf, unpairedCount};
 
 // The message of one member that no pair names. `table` has the lines of the old file.
 fn append_member(
@@ -58,7 +61,9 @@ pub fn all_paired(
     old_name: &[u8],
     pairs_name: &[u8],
     err: i32,
-) -> bool {
+) -> bool
+    ensures { λ r. ⌜ (r ≡ true → unpairedCount (entryOf (now (to .entry))) (offsetsOf (now (words .entry))) ≡ 0) ⌝ }
+{
     let count = count_unpaired(words, to);
     if count == 0 {
         return true;
