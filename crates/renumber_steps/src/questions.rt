@@ -22,6 +22,7 @@ pub fn ask_sets(set: FixedBitSet, words: &[u64], bits: usize, out: &[u64]) -> u6
     ask_new(bits, out)
 }
 
+// Makes every word 0. Writes lent words and asks nothing.
 pub fn clear_marks(marks: &mut [u64])
     ensures { λ r. ⌜ now (marks .exit) ≡ cleared (now (marks .entry)) ⌝ }
 {

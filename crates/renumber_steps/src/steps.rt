@@ -52,7 +52,7 @@ pub fn at_least(length: usize) -> Test
     Test::AtLeast(length as u64)
 }
 
-// Makes the bit of an offset 1 where the words have it, and tells whether it was.
+// Makes the bit of an offset 1 where the words have it, and tells whether it was. Writes lent words and asks nothing.
 pub fn mark(words: &mut [u64], offset: u64) -> bool
     ensures { λ r. ⌜ record { found = r; words = now (words .exit) } ≡ marking (now (words .entry)) offset ⌝ }
 {
@@ -66,7 +66,7 @@ pub fn mark(words: &mut [u64], offset: u64) -> bool
     word & (1 << rem) != 0
 }
 
-// One pair of a pass. `olds` are the words of the old set. Yes stops the pass.
+// One pair of a pass. `olds` are the words of the old set. Yes stops the pass. Writes lent words and asks nothing.
 pub fn take_pair(task: Task, pair: Pair, back: bool, olds: &[u64], words: &mut [u64]) -> bool
     ensures { λ r. ⌜ record { found = r; words = now (words .exit) } ≡ taken task (now (olds .entry)) (sidedPair back pair) (now (words .entry)) ⌝ }
 {
