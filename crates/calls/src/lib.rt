@@ -1,4 +1,6 @@
 // A list of editing calls on two sets, run one after the other.
+#![tactic(auto)]
+
 mod one_call;
 mod replayed;
 mod replays;

@@ -1,7 +1,7 @@
 use sets::FixedBitSet;
 
 // Both sets, after a list of calls.
-#[derive(Drop)]
+#[derive(Clone, Copy)]
 pub struct Replayed {
     pub number: u64,
     pub a: FixedBitSet,

@@ -2,7 +2,7 @@ ghost use Rattle.std.specs.Prelude.{◌≡◌, Bool, get_or, set as set_at};
 ghost use Rattle.changes.specs.Changes.{effect, changed_word};
 
 // What happens to each bit that an edit names.
-#[derive(Drop)]
+#[derive(Clone, Copy)]
 pub enum Change {
     Insert,
     Remove,

@@ -1,4 +1,6 @@
 // What an edit does to a bit, to a word and to a word of lent words.
+#![tactic(auto)]
+
 mod change;
 
 pub use change::{Change, assigning, change_block, change_word};

@@ -1,4 +1,6 @@
 // Tests of two sets, their equality and order, and the words of the longer.
+#![tactic(auto)]
+
 mod longer_set;
 mod orders;
 mod relations;

@@ -9,7 +9,7 @@ use sets::{FixedBitSet, Told, blocks_of, check_both};
 
 // The order is 0 for equal, 1 for below, 2 for above, and 0 where refused.
 #[repr(C)]
-#[derive(Drop)]
+#[derive(Clone, Copy)]
 pub struct Compared {
     pub number: u64,
     pub order: u64,

@@ -1,5 +1,7 @@
 // Document 01's "Sets at their edges", document 02's calls and the Rust's documentation examples through the public calls: a line for each case, with what was called, what came,
 // and whether it is what the document says.
+#![tactic(auto)]
+
 mod checked_list;
 mod position_lists;
 mod report;

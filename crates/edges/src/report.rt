@@ -4,7 +4,7 @@ use std::num::wrapping_add_u64;
 use word_lists::same;
 
 // How many cases were run, and how many answered other than the document says.
-#[derive(Drop)]
+#[derive(Clone, Copy)]
 pub struct Tally {
     pub cases: u64,
     pub different: u64,

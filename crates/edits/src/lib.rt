@@ -1,4 +1,6 @@
 // Edits of a position and of a list of positions. The rules of every edit are here, those of ranges and of the whole set too.
+#![tactic(auto)]
+
 mod lists;
 mod positions;
 

@@ -8,7 +8,7 @@ use changes::{Change, assigning, change_word};
 use sets::{Edited, FixedBitSet, check_position, member};
 
 #[repr(C)]
-#[derive(Drop)]
+#[derive(Clone, Copy)]
 pub struct Replaced {
     pub number: u64,
     pub set: FixedBitSet,

@@ -6,7 +6,7 @@ use walks::{Stepped, SteppedPair};
 
 // C has no enum with a field: in each answer a position or none is `found` and `at`, which is 0 where none is found.
 #[repr(C)]
-#[derive(Drop)]
+#[derive(Clone, Copy)]
 pub struct FbsFound {
     pub number: u64,
     pub found: bool,
@@ -14,7 +14,7 @@ pub struct FbsFound {
 }
 
 #[repr(C)]
-#[derive(Drop)]
+#[derive(Clone, Copy)]
 pub struct FbsStepped {
     pub number: u64,
     pub found: bool,
@@ -23,7 +23,7 @@ pub struct FbsStepped {
 }
 
 #[repr(C)]
-#[derive(Drop)]
+#[derive(Clone, Copy)]
 pub struct FbsSteppedPair {
     pub number: u64,
     pub found: bool,
@@ -34,21 +34,21 @@ pub struct FbsSteppedPair {
 
 // A part of a lent slice, which C takes by its own pointer.
 #[repr(C)]
-#[derive(Drop)]
+#[derive(Clone, Copy)]
 pub struct FbsSlice {
     pub offset: usize,
     pub count: usize,
 }
 
 #[repr(C)]
-#[derive(Drop)]
+#[derive(Clone, Copy)]
 pub struct FbsLonger {
     pub second: bool,
     pub offset: usize,
     pub count: usize,
 }
 
-#[derive(Drop)]
+#[derive(Clone, Copy)]
 struct Place {
     found: bool,
     at: usize,

@@ -1,4 +1,6 @@
 // The least and the greatest member.
+#![tactic(auto)]
+
 mod by_words;
 
 pub use by_words::{maximum, minimum};

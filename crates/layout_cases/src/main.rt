@@ -1,4 +1,6 @@
 // Runs the layout tool on one kind of file after the other, with a heading for each. Both streams go to the standard output, and the status stands below them.
+#![tactic(auto)]
+
 use layout_tool::run;
 
 fn say(text: &[u8]) {

@@ -3,7 +3,7 @@ use tool_files::part;
 
 // The words of the command line, each with a zero byte behind it. An option starts with `-` and is longer than that; none is behind `--`. The word behind
 // `--length` belongs to it.
-#[derive(Drop)]
+#[derive(Clone, Copy)]
 pub(crate) struct Word {
     pub end: usize,
     pub next: usize,

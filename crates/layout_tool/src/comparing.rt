@@ -9,7 +9,7 @@ use verdict_lines::append_tables;
 use whole_walks::Walk;
 
 // How the comparison with a table came out: `Stopped` where the standard output failed.
-#[derive(Drop)]
+#[derive(Clone, Copy)]
 enum Outcome {
     Same,
     Different,
@@ -41,7 +41,7 @@ fn compare_table(
 }
 
 // How many tables are the same, different and not compared, and whether the standard output goes on.
-#[derive(Drop)]
+#[derive(Clone, Copy)]
 struct Tally {
     same: u64,
     different: u64,

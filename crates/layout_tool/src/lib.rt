@@ -1,4 +1,6 @@
 // The layout tool around its proved core: the arguments, the commands and what they write. Data goes to one descriptor, everything else to another.
+#![tactic(auto)]
+
 mod arguments;
 mod commands;
 mod comparing;

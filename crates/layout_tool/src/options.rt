@@ -5,7 +5,7 @@ use tool_files::part;
 
 // What the options ask for, the length that is named, 65,537 where none or more than one is or where it is no number up to 65,536, how many words are no options, and how many of
 // those are `-`.
-#[derive(Drop)]
+#[derive(Clone, Copy)]
 pub(crate) struct Options {
     pub count: bool,
     pub quiet: bool,

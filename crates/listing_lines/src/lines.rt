@@ -6,7 +6,7 @@ use byte_texts::{append, append_decimal};
 use whole_walks::Walk;
 
 // Which lines are written: those of a walk, on a sheet or not, of missing offsets or not; and how many there are in all.
-#[derive(Drop)]
+#[derive(Clone, Copy)]
 pub struct Listing {
     pub walk: Walk,
     pub sheet: bool,

@@ -1,4 +1,6 @@
 // What the tool writes, piece by piece into a lent buffer, and whether two files are the same.
+#![tactic(auto)]
+
 mod pages;
 mod verdicts;
 mod walk_sizes;

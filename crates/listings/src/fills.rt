@@ -7,7 +7,7 @@ use listing_lines::{Listing, append_lines};
 use sets::Part;
 
 // The records of a walk after some offsets, how many those are, and where their lines end.
-#[derive(Drop)]
+#[derive(Clone, Copy)]
 pub(crate) struct Batch {
     pub number: u64,
     pub count: usize,
@@ -59,7 +59,7 @@ fn append_batch(
 }
 
 // How many bytes of the buffer are lines, what is left of the walk then, whether that is nothing, and whether the lines are there whole.
-#[derive(Drop)]
+#[derive(Clone, Copy)]
 pub struct Filled {
     pub length: usize,
     pub one: Part,

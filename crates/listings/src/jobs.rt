@@ -2,7 +2,7 @@ use sets::Part;
 use whole_walks::Walk;
 
 // What is written of two files: a comparison, or the list of a walk; on a sheet, or the counts alone; one of several tables.
-#[derive(Drop)]
+#[derive(Clone, Copy)]
 pub struct Job {
     pub walk: Walk,
     pub compare: bool,
@@ -12,7 +12,7 @@ pub struct Job {
 }
 
 // Where the writing stands: the lines of the first walk, those of the second, the last line, or nothing more.
-#[derive(Drop)]
+#[derive(Clone, Copy)]
 pub enum Stage {
     First,
     Second,
@@ -21,7 +21,7 @@ pub enum Stage {
 }
 
 // What is left to write: the records of the walk, and the place of its next line.
-#[derive(Drop)]
+#[derive(Clone, Copy)]
 pub struct Page {
     pub stage: Stage,
     pub one: Part,
@@ -30,7 +30,7 @@ pub struct Page {
 }
 
 // How many bytes of the buffer are the next piece, what is left then, and whether it could be written.
-#[derive(Drop)]
+#[derive(Clone, Copy)]
 pub struct Piece {
     pub length: usize,
     pub page: Page,

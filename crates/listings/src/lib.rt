@@ -1,4 +1,6 @@
 // What a command writes, and the lines of a walk, as many as a lent buffer has room for.
+#![tactic(auto)]
+
 mod fills;
 mod jobs;
 mod walk_steps;

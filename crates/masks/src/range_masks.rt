@@ -5,7 +5,7 @@ use word_bits::low_mask;
 
 // The words that a range meets are first_block..end_block. The mask of each word strictly between the first and the last is all ones.
 #[repr(C)]
-#[derive(Drop)]
+#[derive(Clone, Copy)]
 pub struct Masks {
     pub first_block: usize,
     pub end_block: usize,

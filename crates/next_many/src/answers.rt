@@ -2,7 +2,7 @@ use sets::Part;
 
 // How many positions were written, and the record of the part after them.
 #[repr(C)]
-#[derive(Drop)]
+#[derive(Clone, Copy)]
 pub struct NextMany {
     pub number: u64,
     pub count: usize,
@@ -11,7 +11,7 @@ pub struct NextMany {
 
 // `one` is the record of the first part, over the first set; `two` that of the second, over the second.
 #[repr(C)]
-#[derive(Drop)]
+#[derive(Clone, Copy)]
 pub struct NextManyPair {
     pub number: u64,
     pub count: usize,
@@ -20,7 +20,7 @@ pub struct NextManyPair {
 }
 
 // How many words of the buffer are written, and where the part stands then.
-#[derive(Drop)]
+#[derive(Clone, Copy)]
 pub struct Filled {
     pub count: usize,
     pub low: usize,

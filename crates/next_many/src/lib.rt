@@ -1,4 +1,6 @@
 // Many positions of a walk in one call: as many front steps as the lent buffer has words.
+#![tactic(auto)]
+
 mod answers;
 mod fill;
 mod one_part;

@@ -1,4 +1,6 @@
 // What a file of offsets is, and what each kind of line does to what is held of it: the set of its offsets, the line that names each first, and what is said of bad lines and repeats.
+#![tactic(auto)]
+
 mod entries;
 mod messages;
 mod reading;

@@ -1,5 +1,5 @@
 // What a line is: `Says` is the last line of a list, with its number of offsets.
-#[derive(Drop)]
+#[derive(Clone, Copy)]
 pub enum Entry {
     Blank,
     Offset(usize),

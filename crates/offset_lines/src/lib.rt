@@ -1,5 +1,7 @@
 // What a line of a text of offsets is: nothing, an offset, the last line of a list, or no line that may stand there.
 // Its scans are there for other texts of numbers too.
+#![tactic(auto)]
+
 mod entry;
 mod last_lines;
 mod lines;

@@ -2,7 +2,7 @@ ghost use Rattle.std.specs.Prelude.{cond, ◌≡◌, ◌≤◌, min, length, tak
 ghost use Rattle.offset_lines.specs.Lines.{is_blank, is_digit, digit_value, drop_blanks, digits_of, value_of, starts_with, is_text, is_void, without_return, has_return};
 
 // How many digits a text starts with, and their value, up to 65,537.
-#[derive(Drop)]
+#[derive(Clone, Copy)]
 pub struct Digits {
     pub count: usize,
     pub value: usize,

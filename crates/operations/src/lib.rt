@@ -1,4 +1,6 @@
 // What two bits make, and lent words joined by it.
+#![tactic(auto)]
+
 mod joins;
 mod operation;
 

@@ -1,5 +1,5 @@
 // What two bits make.
-#[derive(Drop)]
+#[derive(Clone, Copy)]
 pub enum Operation {
     Union,
     Intersection,

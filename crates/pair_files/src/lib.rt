@@ -1,4 +1,6 @@
 // Reads a text of pairs of an old and a new offset in pieces: a table of each side, and what is said of bad lines.
+#![tactic(auto)]
+
 mod entries;
 mod lines;
 mod messages;

@@ -1,5 +1,5 @@
 // What a line is: `Pair` is an old offset and a new one, `Says` the last line of a list, with its number of pairs.
-#[derive(Drop)]
+#[derive(Clone, Copy)]
 pub enum PairEntry {
     Blank,
     Pair(usize, usize),

@@ -1,4 +1,6 @@
 // What a line of a text of pairs is: nothing, an old offset and a new one, the last line of a list, or no line that may stand there.
+#![tactic(auto)]
+
 mod entry;
 mod lines;
 mod numbers;

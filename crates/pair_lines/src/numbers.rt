@@ -4,7 +4,7 @@ ghost use Rattle.pair_lines.specs.Lines.{size_of, number_of, after_number};
 use offset_lines::{read_digits, starts_with};
 
 // A number that a text starts with: how many digits it has, its value, up to 65,537, and where it ends.
-#[derive(Drop)]
+#[derive(Clone, Copy)]
 pub(crate) struct Number {
     pub count: usize,
     pub value: usize,

@@ -1,14 +1,14 @@
 use sets::Part;
 
 // What is written of a set and a table of pairs: on a sheet, or the count alone.
-#[derive(Drop)]
+#[derive(Clone, Copy)]
 pub struct Job {
     pub sheet: bool,
     pub count: bool,
 }
 
 // Where the writing stands: the lines, the last line, or nothing more.
-#[derive(Drop)]
+#[derive(Clone, Copy)]
 pub enum Stage {
     Lines,
     Last,
@@ -16,7 +16,7 @@ pub enum Stage {
 }
 
 // What is left to write: the record of the walk over the members, and the place of its next line.
-#[derive(Drop)]
+#[derive(Clone, Copy)]
 pub struct Page {
     pub stage: Stage,
     pub part: Part,
@@ -24,7 +24,7 @@ pub struct Page {
 }
 
 // How many bytes of the buffer are the next piece, what is left then, and whether it could be written.
-#[derive(Drop)]
+#[derive(Clone, Copy)]
 pub struct Piece {
     pub length: usize,
     pub page: Page,

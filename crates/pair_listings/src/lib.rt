@@ -1,4 +1,6 @@
 // What the tool makes of a set and a table of pairs, and what it writes of them, piece by piece into a lent buffer.
+#![tactic(auto)]
+
 mod jobs;
 mod lines;
 mod moves;

@@ -1,4 +1,6 @@
 // A part of a walk: its next position at the front and at the back, found word by word.
+#![tactic(auto)]
+
 mod records;
 mod search;
 mod steps;

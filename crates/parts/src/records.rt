@@ -1,7 +1,7 @@
 use sets::{Part, Position};
 
 // Which positions of a set a part is, given another set.
-#[derive(Drop)]
+#[derive(Clone, Copy)]
 pub enum Selection {
     Ones,
     Zeroes,
@@ -10,14 +10,14 @@ pub enum Selection {
 }
 
 // Which end of a part a step takes.
-#[derive(Drop)]
+#[derive(Clone, Copy)]
 pub enum End {
     Front,
     Back,
 }
 
 // A position or none, and what is left of the part after it.
-#[derive(Drop)]
+#[derive(Clone, Copy)]
 pub struct Step {
     pub at: Position,
     pub part: Part,

@@ -1,4 +1,6 @@
 // Edits of a range of positions.
+#![tactic(auto)]
+
 mod covered;
 mod ranges;
 

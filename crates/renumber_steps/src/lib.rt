@@ -1,4 +1,6 @@
 // What a renumbering is, and what one pair does in it: over numbers and lent words.
+#![tactic(auto)]
+
 mod answers;
 mod pair;
 mod questions;

@@ -7,14 +7,14 @@ use crate::pair::{Pair, sided_pair};
 use sets::{FixedBitSet, member};
 
 // What the old offset of a pair is held against.
-#[derive(Drop)]
+#[derive(Clone, Copy)]
 pub enum Test {
     Is(u64),
     AtLeast(u64),
 }
 
 // What is done with a pair: its old offset is marked, or its new one inserted where the old one is a member.
-#[derive(Drop)]
+#[derive(Clone, Copy)]
 pub enum Task {
     Mark,
     Move(FixedBitSet),

@@ -31,7 +31,7 @@ fn checksum(words: &[u64], blocks: usize) -> u64 {
 }
 
 // Where the fields of a line begin, and where it ends.
-#[derive(Drop)]
+#[derive(Clone, Copy)]
 struct Places {
     walk: usize,
     steps: usize,
@@ -128,14 +128,14 @@ fn agrees(numbers: &[u64], words: &mut [u64], other: &mut [u64], out: &mut [u64]
 }
 
 // How many histories were replayed, and how many differ.
-#[derive(Drop)]
+#[derive(Clone, Copy)]
 pub struct Tally {
     pub histories: u64,
     pub different: u64,
 }
 
 // What is left of a piece that was read: an unfinished line, and the tally so far.
-#[derive(Drop)]
+#[derive(Clone, Copy)]
 pub struct Fed {
     pub reading: Reading,
     pub tally: Tally,

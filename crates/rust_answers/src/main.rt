@@ -1,4 +1,6 @@
 // Replays the stored answers of the unchanged Rust through the history run, and says how many agree.
+#![tactic(auto)]
+
 mod histories;
 mod numbers;
 
@@ -6,7 +8,7 @@ use histories::{Fed, Tally, feed};
 use io::{print_decimal, write_all};
 use numbers::Reading;
 
-#[derive(Drop)]
+#[derive(Clone, Copy)]
 struct Turn {
     fed: Fed,
     goes_on: bool,

@@ -1,5 +1,5 @@
 // What is read of a line: its numbers go into a lent slice, one after the other. After a `#` the rest of the line is a comment.
-#[derive(Drop)]
+#[derive(Clone, Copy)]
 pub struct Reading {
     pub value: u64,
     pub in_number: bool,

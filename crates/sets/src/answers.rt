@@ -2,34 +2,34 @@ use crate::fixed_bit_set::FixedBitSet;
 
 // Number 0 is an accepted call.
 #[repr(C)]
-#[derive(Drop)]
+#[derive(Clone, Copy)]
 pub struct Edited {
     pub number: u64,
     pub set: FixedBitSet,
 }
 
 #[repr(C)]
-#[derive(Drop)]
+#[derive(Clone, Copy)]
 pub struct Told {
     pub number: u64,
     pub yes: bool,
 }
 
 #[repr(C)]
-#[derive(Drop)]
+#[derive(Clone, Copy)]
 pub struct Counted {
     pub number: u64,
     pub count: usize,
 }
 
 // A position, or none.
-#[derive(Drop)]
+#[derive(Clone, Copy)]
 pub enum Position {
     At(usize),
     Nothing,
 }
 
-#[derive(Drop)]
+#[derive(Clone, Copy)]
 pub struct Found {
     pub number: u64,
     pub at: Position,
@@ -37,7 +37,7 @@ pub struct Found {
 
 // The record of a part of a walk: what is left of it are its positions from low up to high, which is not included.
 #[repr(C)]
-#[derive(Drop)]
+#[derive(Clone, Copy)]
 pub struct Part {
     pub low: usize,
     pub high: usize,

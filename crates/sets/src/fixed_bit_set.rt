@@ -3,7 +3,7 @@ ghost use Rattle.sets.specs.Members.{set_of, empty};
 
 // A set is this value and the words that the caller lends beside it.
 #[repr(C)]
-#[derive(Drop)]
+#[derive(Clone, Copy)]
 pub struct FixedBitSet {
     pub length: usize,
 }

@@ -1,4 +1,6 @@
 // A set of bits over lent 64-bit words: what it is, the questions before any work and the answers. The rules of fresh sets and of views are here too.
+#![tactic(auto)]
+
 mod answers;
 mod fixed_bit_set;
 mod membership;

@@ -1,4 +1,6 @@
 // Tests of one set. The rules of the counts of a range, of `minimum` and of `maximum` are here too.
+#![tactic(auto)]
+
 mod positions;
 mod ranges;
 mod scans;

@@ -1,4 +1,6 @@
 // Files read by calls of the operating system, and what is said of them; texts written whole.
+#![tactic(auto)]
+
 mod messages;
 mod offset_loading;
 mod opening;

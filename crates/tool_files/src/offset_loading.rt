@@ -14,7 +14,7 @@ use offset_files::Reading;
 use offset_reads::{finish, start, take};
 
 // A read, and the reading with its bytes.
-#[derive(Drop)]
+#[derive(Clone, Copy)]
 struct Piece {
     reading: Reading,
     got: Got,
@@ -43,7 +43,7 @@ fn read_piece(
 }
 
 // All reads of a file, and the reading with their bytes.
-#[derive(Drop)]
+#[derive(Clone, Copy)]
 struct Read {
     reading: Reading,
     reads: Reads,

@@ -13,7 +13,7 @@ use byte_texts::append_name;
 use pair_files::{PairReading, finish, start, take};
 
 // A read, and the reading with its bytes.
-#[derive(Drop)]
+#[derive(Clone, Copy)]
 struct PairPiece {
     reading: PairReading,
     got: Got,
@@ -52,7 +52,7 @@ fn read_pair_piece(
 }
 
 // All reads of a file, and the reading with their bytes.
-#[derive(Drop)]
+#[derive(Clone, Copy)]
 struct PairRead {
     reading: PairReading,
     reads: Reads,

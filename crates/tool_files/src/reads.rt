@@ -2,7 +2,7 @@ ghost use Rattle.std.specs.Prelude.{◌+◌, ◌<◌};
 ghost use Rattle.io.specs.Counts.{IsPrefixLen};
 
 // What a read gave: how many bytes came, and the error where it failed, 0 where it did not.
-#[derive(Drop)]
+#[derive(Clone, Copy)]
 pub(crate) struct Got {
     pub count: usize,
     pub error: i32,
@@ -18,7 +18,7 @@ pub(crate) fn read_some(fd: i32, buffer: &mut [u8]) -> Got
 }
 
 // The reads of a file: how many bytes may still come, 0 once the reads are over, and how many signals; then whether the file ended, and if not the error, 0 at the limit.
-#[derive(Drop)]
+#[derive(Clone, Copy)]
 pub(crate) struct Reads {
     pub left: usize,
     pub signals: usize,

@@ -1,4 +1,6 @@
 // Steps of the walks of two parts, `union` and `symmetric_difference`, with both records by value.
+#![tactic(auto)]
+
 mod two_parts;
 
 pub use two_parts::{

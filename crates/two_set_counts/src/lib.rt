@@ -1,4 +1,6 @@
 // The sizes of the walks' lists over two sets.
+#![tactic(auto)]
+
 mod common;
 mod pair_counts;
 mod rests;

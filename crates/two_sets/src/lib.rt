@@ -1,4 +1,6 @@
 // Two sets joined by an operation on their bits, in place and into a third buffer.
+#![tactic(auto)]
+
 mod in_place;
 mod third_buffer;
 

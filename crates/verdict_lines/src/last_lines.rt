@@ -41,7 +41,7 @@ fn append_same(out: &mut [u8], at: usize, n: u64) -> usize
 }
 
 // How many offsets the file of the first name has, and that of the other; how many only the first has, and only the other.
-#[derive(Drop)]
+#[derive(Clone, Copy)]
 pub struct Sizes {
     pub name: u64,
     pub other: u64,

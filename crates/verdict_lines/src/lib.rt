@@ -1,4 +1,6 @@
 // The last lines that the layout tool writes, each into a lent buffer: that a list is complete, a count, and verdicts.
+#![tactic(auto)]
+
 mod last_lines;
 
 pub use last_lines::{Sizes, append_complete, append_count, append_tables, append_verdict};

@@ -1,4 +1,6 @@
 // A walker over the members of a set that keeps the set's words beside its record.
+#![tactic(auto)]
+
 mod steps;
 mod walker;
 

@@ -8,7 +8,7 @@ use sets::{FixedBitSet, Part};
 use walks::Stepped;
 
 // What is left of the walk is from low up to high, as in a part's record.
-#[derive(Drop)]
+#[derive(Clone, Copy)]
 pub struct Ones<'a> {
     pub words: &'a [u64],
     pub length: usize,

@@ -3,7 +3,7 @@ ghost use Rattle.walks.specs.Rules.{first_part};
 
 use sets::{FixedBitSet, Part, Position};
 
-#[derive(Drop)]
+#[derive(Clone, Copy)]
 pub struct Stepped {
     pub number: u64,
     pub at: Position,
@@ -11,7 +11,7 @@ pub struct Stepped {
 }
 
 // `one` is the record of the first part, over the first set; `two` that of the second, over the second.
-#[derive(Drop)]
+#[derive(Clone, Copy)]
 pub struct SteppedPair {
     pub number: u64,
     pub at: Position,

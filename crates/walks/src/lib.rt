@@ -1,4 +1,6 @@
 // Steps of the walks of one part, with the record by value, and a step of two parts that asks nothing. The rules of every step are here.
+#![tactic(auto)]
+
 mod answers;
 mod one_set;
 mod pairs;

@@ -7,7 +7,7 @@ use parts::{End, Selection, step_selected};
 use sets::{Part, Position};
 
 // A step of one of two parts: whether it is the second, and that part's record after it.
-#[derive(Drop)]
+#[derive(Clone, Copy)]
 pub struct RowStep {
     pub second: bool,
     pub at: Position,

@@ -1,4 +1,6 @@
 // The five walks that have steps at both ends, whole: their steps from the first records on, and their counts.
+#![tactic(auto)]
+
 mod walk;
 mod walk_counts;
 mod whole;

@@ -1,5 +1,5 @@
 // The walks that have steps at both ends.
-#[derive(Drop)]
+#[derive(Clone, Copy)]
 pub enum Walk {
     Ones,
     Intersection,

@@ -60,7 +60,7 @@ fn left_of(at: Position, part: Part) -> Part
     }
 }
 
-#[derive(Drop)]
+#[derive(Clone, Copy)]
 struct Records {
     one: Part,
     two: Part,

@@ -5,7 +5,7 @@ use crate::counts::trailing_zeros;
 
 // The position of a word's lowest set bit, and the word without that bit. Number 9 refuses a word of 0.
 #[repr(C)]
-#[derive(Drop)]
+#[derive(Clone, Copy)]
 pub struct LastBit {
     pub number: u64,
     pub position: usize,

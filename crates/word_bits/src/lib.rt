@@ -1,4 +1,6 @@
 // One 64-bit word: its counts, its lowest set bit, and the masks of its lowest bits.
+#![tactic(auto)]
+
 mod counts;
 mod last_bit;
 mod low_masks;

@@ -14,4 +14,4 @@ list_part r = record { place = r.ref_ptr; numbers = r.now }
 abbrev pub part_of : Bor (List ℕ) → ℕ → ℕ → ListPart
 part_of list start end = cond (leb start end && leb end (length list.now))
     (record { place = (list.ref_ptr.0, start * 8 + list.ref_ptr.1); numbers = take (end - start) (drop start list.now) })
-    (record { place = list.ptr; numbers = [] })
+    (record { place = list.ref_ptr; numbers = [] })

@@ -1,0 +1,15 @@
+use mathlib.Core.Path.{ap, ◌∙◌}
+use mathlib.Core.Bool.{Bool}
+use lib.Dec.{eqb}
+use Rattle.sets.specs.Members.{read, changed}
+use Rattle.edits.specs.Edits.{assigned}
+use Rattle.edits.specs.Rules.{at_position}
+use Rattle.edits.proofs.positions.copy_bit.Goals as goal
+
+pub returns : goal.returns
+returns c =
+    let a = c.args in
+    let ws = a.words.now in
+    c.change_position.ensures
+    ∙ ap (λ (f : Bool → Bool). at_position a.set ws a.to (changed (eqb a.to) f (read ws a.set))) c.assigning.ensures
+    ∙ ap (λ (b : Bool). at_position a.set ws a.to (assigned a.to b (read ws a.set))) c.member-enabled.ensures
