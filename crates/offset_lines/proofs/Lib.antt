@@ -1,5 +1,5 @@
 pub mod Texts
-pub mod Digits
+pub mod DigitLaws
 pub mod Parts
 pub mod Examples
 pub mod LineLaws

@@ -13,7 +13,7 @@ use Rattle.offset_lines.specs.Lines.{is_digit, drop_blanks, digits_of, after_dig
 use Rattle.offset_lines.specs.declared.entry.Entry.TheVariants.{NotANumber}
 use Rattle.offset_lines.specs.declared.scans.Digits.{Digits}
 use Rattle.offset_lines.proofs.Texts.{yes_no}
-use Rattle.offset_lines.proofs.Digits.{all_read}
+use Rattle.offset_lines.proofs.DigitLaws.{all_read}
 
 -- a slice from a place on
 abbrev pub from : ℕ → List ℕ → List ℕ

@@ -14,7 +14,7 @@ use native.Mathlib.Nat.{add_comm}
 use Rattle.byte_texts.specs.Ascii.{ascii}
 use Rattle.offset_lines.specs.Lines.{drop_blanks, digits_of, starts_with, is_void}
 use Rattle.offset_lines.specs.declared.scans.Digits.{Digits}
-use Rattle.offset_lines.proofs.Digits.{all_read}
+use Rattle.offset_lines.proofs.DigitLaws.{all_read}
 use Rattle.offset_lines.proofs.Parts.{from, starts_within, digits_within, after_is}
 use Rattle.offset_lines.proofs.Texts.{yes_no}
 use Rattle.pair_lines.specs.Lines.{base_of, bare_of, size_of, number_of, after_number, pair_of, second_of, pair_text}

@@ -1,0 +1,69 @@
+use mathlib.Core.Path.{sym, ap, ◌∙◌}
+use Prim.Native.Nat.{ℕ, ◌+◌, ◌*◌, ◌<◌}
+use lib.ListN.{get_or}
+use Rattle.word_bits.specs.Digits.{digit}
+use Rattle.word_bits.proofs.Ends.{below_le}
+use Rattle.sets.specs.Members.{words_of}
+use Rattle.sets.proofs.OutcomeLaws.{given_no, given_yes}
+use Rattle.sets.proofs.QuestionLaws.{Valid, valid}
+use Rattle.sets.proofs.WordLaws.{words_hold}
+use Rattle.sets.specs.declared.answers.Position.{Position}
+use Rattle.sets.specs.declared.answers.Position.TheVariants.{At}
+use Rattle.extremes.proofs.ExtremeLaws.{least-none, least_at}
+use Rattle.tests.proofs.ScanLaws.{scan_whole, scan_before, scan_stop}
+use native.Mathlib.Omega.{arith}
+use Rattle.extremes.proofs.by_words.minimum.Goals as goal
+use Rattle.extremes.proofs.by_words.minimum.Goals.{Else-blocks-k, Else-number-ne0}
+
+-- the set passes the questions
+held : (c : Else-number-ne0) → Valid c.args.set c.args.words.now
+held c = valid _ _ (sym c.check-number.ensures ∙ c.if-number-ne0.false)
+
+held_2 : (c : Else-blocks-k) → Valid c.args.set c.args.words.now
+held_2 c = valid _ _ (sym c.check-number.ensures ∙ c.if-number-ne0.false)
+
+-- the word found is one of the set's
+inside : (c : Else-blocks-k) → (c.first_other-k.result < words_of c.args.set.length) × (c.first_other-k.result < 1024)
+inside c =
+    let h = rw c.blocks_of-blocks.ensures at c.if-blocks-k.false in
+    (h, omega (arith, h, words_hold c.args.set.length, (held_2 c).small))
+
+pub returns-then-number-ne0 : goal.returns-then-number-ne0
+returns-then-number-ne0 c = given_no _ _ c.check-number.ensures c.if-number-ne0.true
+
+pub returns-then-blocks-k : goal.returns-then-blocks-k
+returns-then-blocks-k c =
+    let a = c.args in
+    let w : ℕ → ℕ = λ i. get_or a.words.now i 0 in
+    let e = scan_whole w 0 (words_of a.set.length) 0 (held (goal.at.returns-then-blocks-k c).Else-number-ne0).enough (rw c.blocks_of-blocks.ensures at c.first_other-k.ensures) in
+    let h = rw c.blocks_of-blocks.ensures at c.if-blocks-k.true in
+    given_yes _ (sym c.if-number-ne0.false ∙ c.check-number.ensures)
+    (ap (λ (p : Position). record { number = 0; at = p })
+    (sym (least-none a.set a.words.now (held (goal.at.returns-then-blocks-k c).Else-number-ne0)
+    (λ k l. scan_before w 0 (words_of a.set.length) 0 c.first_other-k.result e k (omega arith) (omega arith)))))
+
+pub overflow_mul-result : goal.overflow_mul-result
+overflow_mul-result c = omega (arith, inside (goal.at.overflow_mul-result c).Else-blocks-k)
+
+pub offset_bounds-words-k : goal.offset_bounds-words-k
+offset_bounds-words-k c = omega (arith, inside (goal.at.offset_bounds-words-k c).Else-blocks-k)
+
+pub bounds-words-k : goal.bounds-words-k
+bounds-words-k c = omega (arith, inside (goal.at.bounds-words-k c).Else-blocks-k, (held (goal.at.bounds-words-k c).Else-number-ne0).enough)
+
+pub overflow_add-result : goal.overflow_add-result
+overflow_add-result c = omega (arith, inside (goal.at.overflow_add-result c).Else-blocks-k, c.trailing_zeros.ensures, below_le 64 (digit (get_or c.args.words.now c.first_other-k.result 0)))
+
+pub returns : goal.returns
+returns c =
+    let a = c.args in
+    let w : ℕ → ℕ = λ i. get_or a.words.now i 0 in
+    let n = words_of a.set.length in
+    let k = c.first_other-k.result in
+    let e = scan_whole w 0 n 0 (held (goal.at.returns c).Else-number-ne0).enough (rw c.blocks_of-blocks.ensures at c.first_other-k.ensures) in
+    let h = rw c.blocks_of-blocks.ensures at c.if-blocks-k.false in
+    given_yes _ (sym c.if-number-ne0.false ∙ c.check-number.ensures)
+    (ap (λ (p : Position). record { number = 0; at = p })
+    (ap (λ (t : ℕ). At (k * 64 + t)) c.trailing_zeros.ensures
+    ∙ sym (least_at a.set a.words.now (held (goal.at.returns c).Else-number-ne0) k h (c.shared_slice_known-2-1.given k).fits (scan_stop w 0 n 0 k e h)
+    (λ i l. scan_before w 0 n 0 k e i (omega arith) l))))

@@ -1,0 +1,35 @@
+use mathlib.Core.Path.{◌≡◌, sym, ap, ◌∙◌}
+use Rattle.sets.proofs.OutcomeLaws.{given_no, given_yes}
+use Prim.Native.Nat.{ℕ, ◌-◌}
+use Rattle.sets.specs.Members.{read}
+use Rattle.tests.specs.Tests.{zeroes_in}
+use Rattle.sets.proofs.RangeQuestionLaws.{held_range}
+use Rattle.range_counts.proofs.CountLaws.{ones_and_zeroes}
+use native.Mathlib.Omega.{arith}
+use Rattle.range_counts.proofs.counts.count_zeroes.Goals as goal
+
+pub returns-then-number-ne0 : goal.returns-then-number-ne0
+returns-then-number-ne0 c = given_no _ _ c.check_range-number.ensures c.if-number-ne0.true
+
+pub overflow_sub-result : goal.overflow_sub-result
+overflow_sub-result c = omega (arith, (held_range _ _ _ _ (sym c.check_range-number.ensures ∙ c.if-number-ne0.false)).range.ordered)
+
+pub ones_of-requires : goal.ones_of-requires
+ones_of-requires c =
+    let q = held_range _ _ _ _ (sym c.check_range-number.ensures ∙ c.if-number-ne0.false) in
+    (q.held, q.small)
+
+pub overflow_sub-result-2 : goal.overflow_sub-result-2
+overflow_sub-result-2 c =
+    let a = c.args in
+    let q = held_range a.set a.words.now a.start a.end (sym c.check_range-number.ensures ∙ c.if-number-ne0.false) in
+    omega (arith, c.ones_of.ensures, ones_and_zeroes a.set a.words.now a.start a.end q.range)
+
+pub returns : goal.returns
+returns c =
+    let a = c.args in
+    let accepted = sym c.if-number-ne0.false ∙ c.check_range-number.ensures in
+    let q = held_range a.set a.words.now a.start a.end (sym accepted) in
+    let e : a.end - a.start - c.ones_of.result ≡ zeroes_in a.start a.end (read a.words.now a.set) =
+    omega (arith, c.ones_of.ensures, ones_and_zeroes a.set a.words.now a.start a.end q.range) in
+    given_yes _ accepted (ap (λ (n : ℕ). record { number = 0; count = n }) e)

@@ -1,7 +1,0 @@
--- `walks::difference_next` meets its contract. Assumes nothing.
-use borrow.Author.Rules.{rules}
-use Rattle.walks.proofs.pairs.difference_next.Statement.{statement}
-use Rattle.walks.proofs.pairs.difference_next.Tie as tie
-
-pub difference-next-spec : {M : Type 1} → statement M
-difference-next-spec = tie.close (tie.spec (λ c κs. search rules) (λ c κs. c.check-two.ensures) (λ c. c.Pair-step.ensures))
