@@ -8,9 +8,9 @@ returns-in-Mark c =
 
 pub returns-then-member : goal.returns-then-member
 returns-then-member c =
-    task_move _ _ c.sided_pair-sided.ensures c.task-1.given.1
+    task_move _ _ c.sided_pair-sided.ensures c.in-Move.is
     (sym c.member.ensures ∙ c.if-member.true) c.mark-then-member.ensures refl
 
 pub returns-else-member : goal.returns-else-member
 returns-else-member c =
-    task_stay _ _ c.sided_pair-sided.ensures c.task-1.given.1 (sym c.member.ensures ∙ c.if-member.false)
+    task_stay _ _ c.sided_pair-sided.ensures c.in-Move.is (sym c.member.ensures ∙ c.if-member.false)

@@ -1,17 +1,11 @@
 use mathlib.Core.Path.{◌≡◌, ap, ap₂, ◌∙◌}
-use mathlib.Core.List.{List}
 use Prim.Native.Nat.{ℕ, ◌-◌, ◌+◌, ◌*◌}
-use lib.ListN.{get_or}
 use Rattle.word_bits.specs.Counts.{count}
 use Rattle.word_bits.specs.Digits.{digit, row}
 use Rattle.word_bits.proofs.Ones.{count-le, row-none, row_more}
-use Rattle.operations.specs.Operations.{masked_join}
 use native.Mathlib.Omega.{arith}
+use Rattle.two_set_counts.proofs.common.ones_joined.Invariants.{word_at}
 use Rattle.two_set_counts.proofs.common.ones_joined.Goals as goal
-
--- word k of the join
-abbrev word_at : ℕ → ℕ → ℕ → List ℕ → List ℕ → ℕ → ℕ
-word_at first second both ws vs k = masked_join first second both (get_or ws k 0) (get_or vs k 0)
 
 pub loop-k-init : goal.loop-k-init
 loop-k-init c = (omega arith, row-none _)

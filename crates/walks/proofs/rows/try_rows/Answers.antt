@@ -1,16 +1,12 @@
 use mathlib.Core.Path.{sym, ap, ◌∙◌}
-use borrow.Author.Rules.{rules}
 use Rattle.sets.specs.declared.answers.Position.{Position}
 use Rattle.walks.proofs.PairLaws.{or-first, or_second}
 use Rattle.walks.proofs.rows.try_rows.Goals as goal
 
-pub enum_known-at : goal.enum_known-at
-enum_known-at c = search rules
-
 pub returns-in-At : goal.returns-in-At
 returns-in-At c =
     let a = c.args in
-    let t = c.at-1.given.1 in
+    let t = c.in-At.is in
     let s = c.step_selected-step.result in
     rw (← c.step_selected-step.ensures) (sym (or-first _ (record { second = a.second; at = s.at; part = s.part }) _ t ∙ ap (λ (q : Position). record { second = a.second; at = q; part = s.part }) t))
 
