@@ -17,6 +17,6 @@ slice_bounds-bad_line-end c = sym (length-take-le _ _ (count_end _ _ _ refl c.ap
 pub returns : goal.returns
 returns c = λ f full words table e h.
     let a = c.args in
-    subst (λ (reason : List ℕ). HoldsFile (bad_line a.name.now full reason f) c.bad_line.result words table c.bad_line.new.1.1.1.1.0)
+    subst (λ (reason : List ℕ). HoldsFile (bad_line a.name.now full reason f) c.bad_line.result words table c.bad_line.new.report)
     (count-whole _ _ _ refl c.append_wrong_count-end.ensures ∙ ap (wrong_count a.says) h.named)
     (c.bad_line.ensures f full words table e h)

@@ -1,0 +1,27 @@
+use native.Mathlib.Omega.{arith}
+use Rattle.text_lines.specs.Texts.{more}
+use Rattle.pair_files.proofs.HoldsLaws.{named_holds}
+use Rattle.pair_files.proofs.pairs.name_pair.Goals as goal
+
+pub returns-then-to-old : goal.returns-then-to-old
+returns-then-to-old c = λ f report l m h. absurd (omega (arith, h.to_long, c.if-to-old.true))
+
+pub returns-then-from-new : goal.returns-then-from-new
+returns-then-from-new c = λ f report l m h. absurd (omega (arith, h.from_long, c.if-from-new.true))
+
+pub overflow_mul-line : goal.overflow_mul-line
+unfolding more
+overflow_mul-line c = omega (arith, c.more.ensures)
+
+pub overflow_add-line : goal.overflow_add-line
+unfolding more
+overflow_add-line c = omega (arith, c.more.ensures)
+
+pub overflow_add-line-2 : goal.overflow_add-line-2
+unfolding more
+overflow_add-line-2 c =
+    omega (arith, c.more.ensures)
+
+pub returns : goal.returns
+returns c =
+    λ f report l m h. named_holds h c.args.old c.args.new l m c.more.ensures c.name_offset.ensures c.name_offset-2.ensures
