@@ -18,6 +18,6 @@ pub returns : goal.returns
 returns c =
     λ f full to from e h.
     let a = c.args in
-    subst (λ (reason : List ℕ). HoldsPairs (bad_line a.name.now full reason f) c.bad_line.result to from c.bad_line.new.1.1.1.1.0)
+    subst (λ (reason : List ℕ). HoldsPairs (bad_line a.name.now full reason f) c.bad_line.result to from c.bad_line.new.report)
     (count-whole _ _ _ refl c.append_wrong_count-end.ensures ∙ ap (wrong_count a.says) h.pairs)
     (c.bad_line.ensures f full to from e h)

@@ -10,7 +10,7 @@ inside : (c : After-answer_word) → let at = c.loop-k in
     (at.k < length at.out) × (at.k * 8 < 2 ^ 64)
 inside c =
     let test = c.loop-k-test.true in
-    (omega (arith, test, c.loop-k.invariant.same, c.requires), omega (arith, test, c.well-formed.1.1.1.1.1.0))
+    (omega (arith, test, c.loop-k.invariant.same, c.requires), omega (arith, test, c.well_formed.1.1.1.1.1.0))
 
 pub loop-k-init : goal.loop-k-init
 loop-k-init c = answered_none _ _ _ _ _ _

@@ -1,7 +1,0 @@
--- `next_many::ones_next_many` meets its contract. Assumes nothing.
-use borrow.Author.Rules.{rules}
-use Rattle.next_many.proofs.one_part.ones_next_many.Statement.{statement}
-use Rattle.next_many.proofs.one_part.ones_next_many.Tie as tie
-
-pub ones-next-many-spec : {M : Type 1} → statement M
-ones-next-many-spec = tie.close (tie.spec (λ c κs. search rules) (λ c. search rules) (λ c. c.before.before.fill-one-set.ensures))

@@ -1,0 +1,26 @@
+use mathlib.Core.Logic.{⊎_elim, inl, inr}
+use mathlib.Core.Path.{sym, ◌∙◌}
+use Rattle.offset_lines.specs.Lines.{line_of}
+use Rattle.offset_lines.proofs.LineLaws.{line_cut}
+use Rattle.text_lines.proofs.BodyLaws.{mark_long, held_decides, body_decides, marked_body, plain_body}
+use Rattle.offset_reads.proofs.CutLaws.{taken_as}
+use Rattle.offset_reads.proofs.lines.take_line.Goals as goal
+
+pub slice_bounds-take_body-count : goal.slice_bounds-take_body-count
+slice_bounds-take_body-count c = mark_long _ (sym c.starts_with_mark.ensures ∙ c.if-starts_with_mark.true)
+
+pub slice_bounds-take_body-start : goal.slice_bounds-take_body-start
+slice_bounds-take_body-start c = mark_long _ (sym c.starts_with_mark.ensures ∙ c.if-starts_with_mark.true)
+
+pub returns-then-starts_with_mark : goal.returns-then-starts_with_mark
+returns-then-starts_with_mark c = λ f full e h.
+    let d = body_decides line_of line_cut full e in
+    taken_as _ full f _ (marked_body f.lines full e (sym h.lines ∙ c.if-reading-eq0.true) (sym c.starts_with_mark.ensures ∙ c.if-starts_with_mark.true))
+    (c.take_body.ensures f _ d.is d.shown h)
+
+pub returns : goal.returns
+returns c = λ f full e h.
+    let d = held_decides line_of line_cut full e in
+    taken_as _ full f full
+    (plain_body f.lines full e (⊎_elim (λ w. inr (sym w.1.ensures ∙ w.2.left)) (λ w. inl (λ z. w.left (h.lines ∙ z))) c.if-reading-eq0.branch))
+    (c.take_body-2.ensures f full d.is d.shown h)

@@ -1,0 +1,30 @@
+use Prim.Native.Nat.{◌-◌}
+use Rattle.offset_reads.proofs.ReadLaws.{taking_start, taking_byte, taking_line, taking_end}
+use Rattle.offset_reads.proofs.reads.take.Goals as goal
+
+pub loop-k-init : goal.loop-k-init
+loop-k-init c = taking_start _ _ _ _ _ _ _
+
+pub loop-k-preserved-then-byte-ne10 : goal.loop-k-preserved-then-byte-ne10
+loop-k-preserved-then-byte-ne10 c =
+    taking_byte _ _ _ _ _ _ _ c.loop-k.invariant c.loop-k-test.true c.if-byte-ne10.true c.keep_byte-length.auto.1.1.0 c.keep_byte-length.ensures
+
+pub loop-k-preserved : goal.loop-k-preserved
+loop-k-preserved c =
+    let kept = c.end_line-state.auto.1.1.1.1 in
+    taking_line _ _ _ _ _ _ _ c.loop-k.invariant c.loop-k-test.true c.if-byte-ne10.false kept.0 kept.1.0 kept.1.1.0 c.end_line-state.ensures
+
+pub shape_of-line : goal.shape_of-line
+shape_of-line c = c.loop-k.invariant.same_line
+
+pub shape_of-words : goal.shape_of-words
+shape_of-words c = c.loop-k.invariant.same_words
+
+pub shape_of-table : goal.shape_of-table
+shape_of-table c = c.loop-k.invariant.same_table
+
+pub shape_of-report : goal.shape_of-report
+shape_of-report c = c.loop-k.invariant.same_report
+
+pub returns : goal.returns
+returns c = taking_end _ _ _ _ _ _ _ c.loop-k.invariant c.loop-k-test.false
