@@ -47,7 +47,7 @@ append_batch-batch-requires c = omega (arith, c.if-next-gt4294967296.false)
 
 pub shape_of-out-then-batch-ne0 : goal.shape_of-out-then-batch-ne0
 shape_of-out-then-batch-ne0 c =
-    c.append_batch-batch.auto.0 ∙ c.loop-at.invariant.same
+    c.append_batch-batch.auto.out ∙ c.loop-at.invariant.same
 
 pub returns-then-batch-ne0 : goal.returns-then-batch-ne0
 returns-then-batch-ne0 c =
@@ -55,7 +55,7 @@ returns-then-batch-ne0 c =
 
 pub shape_of-out-then-size-at : goal.shape_of-out-then-size-at
 shape_of-out-then-size-at c =
-    c.append_batch-batch.auto.0 ∙ c.loop-at.invariant.same
+    c.append_batch-batch.auto.out ∙ c.loop-at.invariant.same
 
 pub returns-then-size-at : goal.returns-then-size-at
 returns-then-size-at c =

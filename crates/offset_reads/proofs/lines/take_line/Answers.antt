@@ -5,6 +5,7 @@ use Rattle.offset_lines.proofs.LineLaws.{line_cut}
 use Rattle.text_lines.proofs.BodyLaws.{mark_long, held_decides, body_decides, marked_body, plain_body}
 use Rattle.offset_reads.proofs.CutLaws.{taken_as}
 use Rattle.offset_reads.proofs.lines.take_line.Goals as goal
+use Rattle.offset_reads.proofs.lines.take_line.Goals.{then-reading-eq0+else-starts_with_mark, else-reading-eq0}
 
 pub slice_bounds-take_body-count : goal.slice_bounds-take_body-count
 slice_bounds-take_body-count c = mark_long _ (sym c.starts_with_mark.ensures ∙ c.if-starts_with_mark.true)
@@ -22,5 +23,8 @@ pub returns : goal.returns
 returns c = λ f full e h.
     let d = held_decides line_of line_cut full e in
     taken_as _ full f full
-    (plain_body f.lines full e (⊎_elim (λ w. inr (sym w.1.ensures ∙ w.2.left)) (λ w. inl (λ z. w.left (h.lines ∙ z))) c.if-reading-eq0.branch))
+    (plain_body f.lines full e (elim c.if-reading-eq0.branch [
+      then-reading-eq0+else-starts_with_mark w ↦ inr (sym w.starts_with_mark.ensures ∙ w.if-starts_with_mark.false)
+    | else-reading-eq0 w ↦ inl (λ z. w.if-reading-eq0.false (h.lines ∙ z))
+    ]))
     (c.take_body-2.ensures f full d.is d.shown h)

@@ -7,12 +7,11 @@ loop-k-init c = taking_start _ _ _ _ _ _ _
 
 pub loop-k-preserved-then-byte-ne10 : goal.loop-k-preserved-then-byte-ne10
 loop-k-preserved-then-byte-ne10 c =
-    taking_byte _ _ _ _ _ _ _ c.loop-k.invariant c.loop-k-test.true c.if-byte-ne10.true c.keep_byte-length.auto.1.1.0 c.keep_byte-length.ensures
+    taking_byte _ _ _ _ _ _ _ c.loop-k.invariant c.loop-k-test.true c.if-byte-ne10.true c.keep_byte-length.auto.line c.keep_byte-length.ensures
 
 pub loop-k-preserved : goal.loop-k-preserved
 loop-k-preserved c =
-    let kept = c.end_line-state.auto.1.1.1.1 in
-    taking_line _ _ _ _ _ _ _ c.loop-k.invariant c.loop-k-test.true c.if-byte-ne10.false kept.0 kept.1.0 kept.1.1.0 c.end_line-state.ensures
+    taking_line _ _ _ _ _ _ _ c.loop-k.invariant c.loop-k-test.true c.if-byte-ne10.false c.end_line-state.auto.words c.end_line-state.auto.table c.end_line-state.auto.report c.end_line-state.ensures
 
 pub shape_of-line : goal.shape_of-line
 shape_of-line c = c.loop-k.invariant.same_line
