@@ -1,0 +1,29 @@
+use mathlib.Core.Path.{◌≡◌, refl, ap, ◌∙◌}
+use native.Mathlib.Omega.{arith}
+use Prim.Native.Nat.{ℕ, ◌-◌}
+use Rattle.sets.specs.Members.{write}
+use Rattle.pair_listings.specs.Tables.{entry_of, named_below}
+use Rattle.pair_listings.proofs.NamedLaws.{named_start}
+use Rattle.pair_listings.proofs.moves.mark_each.Goals as goal
+
+pub loop-p-init : goal.loop-p-init
+loop-p-init c = record { same = refl; inside = omega arith; done = λ vs room e. named_start _ vs e }
+
+pub loop-p-preserved : goal.loop-p-preserved
+loop-p-preserved c =
+    let test = c.loop-p-test.true in
+    let l = c.loop-p in
+    record {
+      same = c.mark_named.auto.out ∙ l.invariant.same;
+      inside = omega (arith, test);
+      done = λ vs room e. c.mark_named.ensures vs room test (l.invariant.done vs room e);
+    }
+
+pub shape_of-out : goal.shape_of-out
+shape_of-out c = c.loop-p.invariant.same
+
+pub returns : goal.returns
+returns c = λ vs room e.
+    let l = c.loop-p in
+    let last : l.p ≡ 65536 = omega (arith, l.invariant.inside, c.loop-p-test.false) in
+    l.invariant.done vs room e ∙ ap (λ (k : ℕ). write vs (named_below k (entry_of c.args.table.now))) last
