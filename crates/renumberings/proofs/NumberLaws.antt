@@ -1,9 +1,8 @@
 -- What `renumber_with` leaves at each of its exits. Assumes nothing.
-use mathlib.Core.Path.{◌≡◌, refl, sym, ◌∙◌, ap, subst}
+use mathlib.Core.Path.{◌≡◌, refl, sym, ◌∙◌, ap}
 use Prim.Native.Nat.{ℕ}
-use mathlib.Core.Bool.{Bool, true, false, not}
+use mathlib.Core.Bool.{Bool}
 use mathlib.Core.List.{List}
-use lib.Dec.{T, eqb, eqb→eq}
 use lib.ListN.{length}
 use Rattle.sets.specs.Members.{read, set_of, empty, write}
 use Rattle.sets.specs.Outcomes.{Outcome, outcome}
@@ -18,17 +17,6 @@ use Rattle.renumber_steps.specs.Rules.{pairs_questions, renumber_rule}
 use Rattle.renumber_steps.specs.declared.pair.Pair.{Pair}
 use Rattle.renumber_steps.specs.declared.steps.Task.TheVariants.{Move}
 use Rattle.renumber_steps.proofs.AskLaws.{renumbered_by}
-
--- the code's test of a number
-pub not-zero : (n : ℕ) → T (not (eqb n 0)) → n ≡ 0 → ⊥
-not-zero n h e = subst (λ (k : ℕ). T (not (eqb k 0))) e h
-
-twice_not : (b : Bool) → T (not (not b)) → T b
-twice_not true h = h
-twice_not false h = h
-
-pub is_zero : (n : ℕ) → T (not (not (eqb n 0))) → n ≡ 0
-is_zero n h = eqb→eq n 0 (twice_not (eqb n 0) h)
 
 module _ (set : FixedBitSet) (ws : List ℕ) (ps : List Pair) (n : ℕ) (vs : List ℕ) where
   -- the questions of the sets, and those of the pairs

@@ -1,2 +1,0 @@
-pub mod WalkerLaws
-mod EndLaws
