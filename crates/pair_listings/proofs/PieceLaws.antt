@@ -59,8 +59,8 @@ module _ (job : Job) (table : ℕ → ℕ) (ws : List ℕ) (page : Page) where
       subst⁻¹ (PieceRight job table s page out) e
       (record { fits = omega arith; text = λ w. absurd (false≢true w); later = λ w. absurd (false≢true w); moves = λ w i. absurd (false≢true w) })
 
-  pub no_piece : {out : List ℕ} {r : Piece} → r ≡ no_piece page → (Able s page out → ⊥) → PieceWell out r
-  no_piece e f = (none_right e, λ a. absurd (f a))
+  pub no_piece_lem : {out : List ℕ} {r : Piece} → r ≡ no_piece page → (Able s page out → ⊥) → PieceWell out r
+  no_piece_lem e f = (none_right e, λ a. absurd (f a))
 
   -- ---- lines
 

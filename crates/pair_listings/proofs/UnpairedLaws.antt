@@ -48,19 +48,15 @@ module _ (to : ℕ → ℕ) (ws : List ℕ) where
 
   -- ---- the count below p
 
-  counting_more : (p : ℕ) {n : ℕ} → n ≡ count p f → f p ≡ true → n + 1 ≡ count (p + 1) f
+  pub counting_more : (p : ℕ) {n : ℕ} → n ≡ count p f → f p ≡ true → n + 1 ≡ count (p + 1) f
   unfolding count
   counting_more p {n} e y = ap₂ (λ (k : ℕ) (b : Bool). k + one b) e (sym y) ∙ sym (ap (λ (k : ℕ). count k f) (add-one p))
 
-  counting_same : (p : ℕ) {n : ℕ} → n ≡ count p f → f p ≡ false → n ≡ count (p + 1) f
+  pub counting_same : (p : ℕ) {n : ℕ} → n ≡ count p f → f p ≡ false → n ≡ count (p + 1) f
   unfolding count
   counting_same p {n} e y =
       let z : n ≡ n + 0 = omega arith in
       z ∙ ap₂ (λ (k : ℕ) (b : Bool). k + one b) e (sym y) ∙ sym (ap (λ (k : ℕ). count k f) (add-one p))
-
-  pub counting_joined : (p : ℕ) {n m : ℕ} {A B : Type 0} → n ≡ count p f → (A → f p ≡ true) → (B → f p ≡ false) → (A × (m ≡ n + 1)) ⊎ (B × (m ≡ n)) → m ≡ count (p + 1) f
-  counting_joined p e y n (inl h) = h.1 ∙ counting_more p e (y h.0)
-  counting_joined p e y n (inr h) = h.1 ∙ counting_same p e (n h.0)
 
   pub counting_end : (p : ℕ) {n : ℕ} → n ≡ count p f → p ≡ 65536 → n ≡ unpaired_count to (offsets_of ws)
   unfolding read

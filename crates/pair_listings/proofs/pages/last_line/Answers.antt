@@ -1,12 +1,12 @@
 use native.Mathlib.Omega.{arith}
 use Rattle.pair_listings.specs.Tables.{entry_of}
-use Rattle.pair_listings.proofs.PieceLaws.{no_piece, last_room, last_piece}
+use Rattle.pair_listings.proofs.PieceLaws.{no_piece_lem, last_room, last_piece}
 use Rattle.pair_listings.proofs.pages.last_line.Goals as goal
 
 pub returns-then-size-end : goal.returns-then-size-end
 returns-then-size-end c =
     let a = c.args in
-    no_piece a.job (entry_of a.table.now) a.words.now a.page c.no_piece.ensures
+    no_piece_lem a.job (entry_of a.table.now) a.words.now a.page c.no_piece.ensures
     (λ x. omega (
       arith,
       c.if-size-end.true,

@@ -4,7 +4,7 @@ use lib.ListN.{length, replicate}
 use Rattle.sets.specs.declared.fixed_bit_set.FixedBitSet.{FixedBitSet}
 use Rattle.next_many.specs.Rules.{many_outcome, ones_next_many_rule}
 use Rattle.pair_listings.specs.Tables.{all_offsets, entry_of}
-use Rattle.pair_listings.proofs.PieceLaws.{no_piece, lines_room, lines_piece}
+use Rattle.pair_listings.proofs.PieceLaws.{no_piece_lem, lines_room, lines_piece}
 use Rattle.pair_listings.proofs.WalkLaws.{Given, given_128, accepted}
 use Rattle.pair_listings.proofs.pages.next_lines.Goals as goal
 use Rattle.pair_listings.proofs.pages.next_lines.Goals.{After-offsets-2-1, Else-number-ne0}
@@ -34,13 +34,13 @@ known c =
 pub returns-then-number-ne0 : goal.returns-then-number-ne0
 returns-then-number-ne0 c =
     let a = c.args in
-    no_piece a.job (entry_of a.table.now) a.words.now a.page c.no_piece.ensures
+    no_piece_lem a.job (entry_of a.table.now) a.words.now a.page c.no_piece.ensures
     (λ x. c.if-number-ne0.true (accepted a.words.now a.page.part (replicate 128 0) (called (goal.at.returns-then-number-ne0 c).After-offsets-2-1) c.requires.0 x.ready.asked))
 
 pub returns-then-place-gt4294967296 : goal.returns-then-place-gt4294967296
 returns-then-place-gt4294967296 c =
     let a = c.args in
-    no_piece a.job (entry_of a.table.now) a.words.now a.page c.no_piece-then-place-gt4294967296.ensures (λ x. omega (arith, c.if-place-gt4294967296.true, x.ready.places))
+    no_piece_lem a.job (entry_of a.table.now) a.words.now a.page c.no_piece-then-place-gt4294967296.ensures (λ x. omega (arith, c.if-place-gt4294967296.true, x.ready.places))
 
 pub slice_bounds-offsets-end : goal.slice_bounds-offsets-end
 slice_bounds-offsets-end c = (known (goal.at.slice_bounds-offsets-end c).Else-number-ne0).enough
@@ -54,7 +54,7 @@ pub returns-then-size-end : goal.returns-then-size-end
 returns-then-size-end c =
     let g = known (goal.at.returns-then-size-end c).Else-number-ne0 in
     let a = c.args in
-    no_piece a.job (entry_of a.table.now) a.words.now a.page c.no_piece-then-size-end.ensures
+    no_piece_lem a.job (entry_of a.table.now) a.words.now a.page c.no_piece-then-size-end.ensures
     (λ x. omega (
       arith,
       c.if-size-end.true,

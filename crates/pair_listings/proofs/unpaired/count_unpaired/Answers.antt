@@ -4,8 +4,9 @@ use Prim.Native.Nat.{◌-◌}
 use Rattle.word_bits.specs.Counts.{count as count_of}
 use Rattle.word_bits.proofs.Ones.{count-le}
 use Rattle.pair_listings.specs.Tables.{offsets_of, entry_of, is_unpaired}
-use Rattle.pair_listings.proofs.UnpairedLaws.{counting_joined, counting_end}
+use Rattle.pair_listings.proofs.UnpairedLaws.{counting_more, counting_same, counting_end}
 use Rattle.pair_listings.proofs.unpaired.count_unpaired.Goals as goal
+use Rattle.pair_listings.proofs.unpaired.count_unpaired.Goals.{then-is_unpaired, else-is_unpaired}
 
 pub loop-p-init : goal.loop-p-init
 unfolding count_of
@@ -22,7 +23,10 @@ pub loop-p-preserved : goal.loop-p-preserved
 loop-p-preserved c =
     let l = c.loop-p in (
       omega (arith, c.loop-p-test.true),
-      counting_joined _ _ l.p l.invariant.1 (λ t. sym c.is_unpaired.ensures ∙ t.taken) (λ t. sym c.is_unpaired.ensures ∙ t.left) c.if-is_unpaired.branch,
+      elim c.if-is_unpaired.branch [
+        then-is_unpaired w ↦ w.count-is ∙ counting_more _ _ l.p l.invariant.1 (sym c.is_unpaired.ensures ∙ w.if-is_unpaired.true)
+      | else-is_unpaired w ↦ w.count-is ∙ counting_same _ _ l.p l.invariant.1 (sym c.is_unpaired.ensures ∙ w.if-is_unpaired.false)
+      ],
     )
 
 pub returns : goal.returns
