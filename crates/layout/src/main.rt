@@ -1,6 +1,6 @@
-// The layout tool. A program has no exit status: its verdict goes to descriptor 3, and bin/layout turns that into one.
+// The layout tool. Its verdict goes to descriptor 3, and bin/layout turns that into the exit status.
 #![tactic(auto)]
 
-fn main() {
-    layout_tool::run_program();
+fn main(rt: HostRuntime) {
+    layout_tool::run_program(&rt, &mut rt.stdout(), &mut rt.stderr());
 }

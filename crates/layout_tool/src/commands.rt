@@ -1,11 +1,13 @@
 use crate::arguments::operand;
 use crate::comparing::compare;
-use crate::help::{command_help, general_help, write_help};
+use crate::help::{command_help, tell_help, write_help};
 use crate::listing::write_job;
 use crate::options::{Options, has_length, options_of, unknown_option};
 use crate::renumbering::renumber;
 use check::same;
 use listings::Job;
+use std::io::{Input, Write};
+use std::rt::Files;
 use tool_files::{load, tell};
 use whole_walks::Walk;
 
@@ -20,7 +22,13 @@ fn job_of(walk: Walk, options: Options) -> Job {
 }
 
 // The offsets of one file.
-fn list(arguments: &[u8], options: Options, out: i32, err: i32) -> usize {
+fn list<R: Files + Input, W: Write, E: Write>(
+    rt: &R,
+    arguments: &[u8],
+    options: Options,
+    out: &mut W,
+    err: &mut E,
+) -> usize {
     if options.operands != 2 {
         let _told = tell(
             err,
@@ -33,7 +41,7 @@ fn list(arguments: &[u8], options: Options, out: i32, err: i32) -> usize {
     let mut words: [u64; 1024] = [0; 1024];
     let mut table: [u64; 65536] = [0; 65536];
     let name = operand(arguments, 1);
-    if !load(name, options.allow_empty, err, &mut words, &mut table) {
+    if !load(rt, name, options.allow_empty, err, &mut words, &mut table) {
         return 2;
     }
     let job = job_of(Walk::Ones, options);
@@ -44,7 +52,14 @@ fn list(arguments: &[u8], options: Options, out: i32, err: i32) -> usize {
 }
 
 // The list of a walk over the offsets of two files.
-fn combine(walk: Walk, arguments: &[u8], options: Options, out: i32, err: i32) -> usize {
+fn combine<R: Files + Input, W: Write, E: Write>(
+    rt: &R,
+    walk: Walk,
+    arguments: &[u8],
+    options: Options,
+    out: &mut W,
+    err: &mut E,
+) -> usize {
     if options.operands != 3 {
         let command = operand(arguments, 0);
         let _told = tell(err, b"ERROR: ", command, b" takes two files");
@@ -55,10 +70,17 @@ fn combine(walk: Walk, arguments: &[u8], options: Options, out: i32, err: i32) -
     let mut table: [u64; 65536] = [0; 65536];
     let name = operand(arguments, 1);
     let other_name = operand(arguments, 2);
-    if !load(name, options.allow_empty, err, &mut words, &mut table) {
+    if !load(rt, name, options.allow_empty, err, &mut words, &mut table) {
         return 2;
     }
-    if !load(other_name, options.allow_empty, err, &mut other, &mut table) {
+    if !load(
+        rt,
+        other_name,
+        options.allow_empty,
+        err,
+        &mut other,
+        &mut table,
+    ) {
         return 2;
     }
     let job = job_of(walk, options);
@@ -77,9 +99,16 @@ fn combine(walk: Walk, arguments: &[u8], options: Options, out: i32, err: i32) -
     2
 }
 
-fn run_command(command: &[u8], arguments: &[u8], options: Options, out: i32, err: i32) -> usize {
+fn run_command<R: Files + Input, W: Write, E: Write>(
+    rt: &R,
+    command: &[u8],
+    arguments: &[u8],
+    options: Options,
+    out: &mut W,
+    err: &mut E,
+) -> usize {
     if same(command, b"renumber") {
-        return renumber(arguments, options, out, err);
+        return renumber(rt, arguments, options, out, err);
     }
     if options.pairs || options.back || has_length(arguments) {
         let _told = tell(
@@ -100,22 +129,22 @@ fn run_command(command: &[u8], arguments: &[u8], options: Options, out: i32, err
             );
             return 2;
         }
-        return compare(arguments, options, out, err);
+        return compare(rt, arguments, options, out, err);
     }
     if same(command, b"list") {
-        return list(arguments, options, out, err);
+        return list(rt, arguments, options, out, err);
     }
     if same(command, b"union") {
-        return combine(Walk::Union, arguments, options, out, err);
+        return combine(rt, Walk::Union, arguments, options, out, err);
     }
     if same(command, b"intersection") {
-        return combine(Walk::Intersection, arguments, options, out, err);
+        return combine(rt, Walk::Intersection, arguments, options, out, err);
     }
     if same(command, b"difference") {
-        return combine(Walk::Difference, arguments, options, out, err);
+        return combine(rt, Walk::Difference, arguments, options, out, err);
     }
     if same(command, b"symmetric-difference") {
-        return combine(Walk::SymmetricDifference, arguments, options, out, err);
+        return combine(rt, Walk::SymmetricDifference, arguments, options, out, err);
     }
     let _told = tell(
         err,
@@ -127,7 +156,12 @@ fn run_command(command: &[u8], arguments: &[u8], options: Options, out: i32, err
 }
 
 // Runs the tool on a command line: each word with a zero byte behind it. Data goes to `out`, everything else to `err`. Gives the status: 0 the same or complete, 1 different, 2 trouble.
-pub fn run(arguments: &[u8], out: i32, err: i32) -> usize {
+pub fn run<R: Files + Input, W: Write, E: Write>(
+    rt: &R,
+    arguments: &[u8],
+    out: &mut W,
+    err: &mut E,
+) -> usize {
     let options = options_of(arguments);
     let word = unknown_option(arguments);
     if word.len() != 0 {
@@ -150,7 +184,7 @@ pub fn run(arguments: &[u8], out: i32, err: i32) -> usize {
         return command_help(command, options.operands > 0, out, err);
     }
     if options.operands == 0 {
-        let _told = general_help(err, err);
+        tell_help(err);
         return 2;
     }
     if options.inputs > 1 {
@@ -162,5 +196,5 @@ pub fn run(arguments: &[u8], out: i32, err: i32) -> usize {
         );
         return 2;
     }
-    run_command(command, arguments, options, out, err)
+    run_command(rt, command, arguments, options, out, err)
 }

@@ -3,7 +3,9 @@ use crate::listing::write_job;
 use crate::options::Options;
 use listing_pieces::same_offsets;
 use listings::Job;
+use std::io::{Input, Write};
 use std::num::wrapping_add_u64;
+use std::rt::Files;
 use tool_files::{incomplete, load, part, write_whole};
 use verdict_lines::append_tables;
 use whole_walks::Walk;
@@ -17,7 +19,8 @@ enum Outcome {
     Stopped,
 }
 
-fn compare_table(
+fn compare_table<R: Files + Input, W: Write, E: Write>(
+    rt: &R,
     job: Job,
     options: Options,
     firmware: &[u8],
@@ -25,10 +28,10 @@ fn compare_table(
     words: &[u64],
     other: &mut [u64],
     table: &mut [u64],
-    out: i32,
-    err: i32,
+    out: &mut W,
+    err: &mut E,
 ) -> Outcome {
-    if !load(name, options.allow_empty, err, other, table) {
+    if !load(rt, name, options.allow_empty, err, other, table) {
         return Outcome::Trouble;
     }
     if !write_job(job, options.quiet, words, other, firmware, name, out, err) {
@@ -82,15 +85,16 @@ fn add_outcome(tally: Tally, outcome: Outcome) -> Tally {
 }
 
 // The tables are the words 2..count of those that are no options.
-fn compare_tables(
+fn compare_tables<R: Files + Input, W: Write, E: Write>(
+    rt: &R,
     arguments: &[u8],
     count: usize,
     options: Options,
     job: Job,
     words: &[u64],
     table: &mut [u64],
-    out: i32,
-    err: i32,
+    out: &mut W,
+    err: &mut E,
 ) -> Tally {
     let mut other: [u64; 1024] = [0; 1024];
     let view: &mut [u64] = &mut other;
@@ -104,7 +108,9 @@ fn compare_tables(
     let mut k: usize = 2;
     while k < count {
         let name = operand(arguments, k);
-        let outcome = compare_table(job, options, firmware, name, words, view, table, out, err);
+        let outcome = compare_table(
+            rt, job, options, firmware, name, words, view, table, out, err,
+        );
         tally = add_outcome(tally, outcome);
         if !tally.goes_on {
             return tally;
@@ -115,21 +121,28 @@ fn compare_tables(
 }
 
 // The verdict over several tables.
-fn write_tally(tally: Tally, out: i32, err: i32) -> bool {
+fn write_tally<W: Write, E: Write>(tally: Tally, out: &mut W, err: &mut E) -> bool {
     let mut line = [0u8; 256];
     let end = append_tables(&mut line, 0, tally.same, tally.different, tally.trouble);
-    if !write_whole(out, part(&line, 0, end)) {
-        incomplete(err, os::errno());
+    if let Err(error) = write_whole(out, part(&line, 0, end)) {
+        incomplete(err, &error);
         return false;
     }
     true
 }
 
 // Whether the tables name the offsets of the firmware: 0 where all do, 1 where one does not, 2 at trouble.
-pub(crate) fn compare(arguments: &[u8], options: Options, out: i32, err: i32) -> usize {
+pub(crate) fn compare<R: Files + Input, W: Write, E: Write>(
+    rt: &R,
+    arguments: &[u8],
+    options: Options,
+    out: &mut W,
+    err: &mut E,
+) -> usize {
     let mut words: [u64; 1024] = [0; 1024];
     let mut table: [u64; 65536] = [0; 65536];
     if !load(
+        rt,
         operand(arguments, 1),
         options.allow_empty,
         err,
@@ -147,6 +160,7 @@ pub(crate) fn compare(arguments: &[u8], options: Options, out: i32, err: i32) ->
         several,
     };
     let tally = compare_tables(
+        rt,
         arguments,
         options.operands,
         options,

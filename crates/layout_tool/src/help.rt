@@ -1,18 +1,20 @@
 use check::same;
+use std::io::Write;
 use tool_files::{incomplete, tell, write_whole};
 
 // Writes a text. 2 where it could not be written whole.
-pub(crate) fn write_help(text: &[u8], out: i32, err: i32) -> usize {
-    if write_whole(out, text) {
-        return 0;
+pub(crate) fn write_help<W: Write, E: Write>(text: &[u8], out: &mut W, err: &mut E) -> usize {
+    match write_whole(out, text) {
+        Ok(()) => 0,
+        Err(error) => {
+            incomplete(err, &error);
+            2
+        }
     }
-    incomplete(err, os::errno());
-    2
 }
 
-pub(crate) fn general_help(out: i32, err: i32) -> usize {
-    write_help(
-        b"layout compare FIRMWARE TABLE..      whether each table names the offsets of the firmware, and which they do not share\n\
+fn general_text() -> &'static [u8] {
+    b"layout compare FIRMWARE TABLE..      whether each table names the offsets of the firmware, and which they do not share\n\
 layout list FILE                     the offsets of a file, rising\n\
 layout union A B                     the offsets of A, then those of B that are not in A\n\
 layout intersection A B              the offsets of A that are in B\n\
@@ -30,13 +32,21 @@ Options, in any place:\n\
 \x20 --back          of a renumbering the file of pairs for the way back\n\
 \x20 --version, --help, and -- before names that start with -\n\
 A file has one offset a line, 0 to 65535, decimal or hexadecimal with 0x. Blank lines, spaces, tabs and comments from # on are allowed; - is the standard input.\n\
-The status is 0 for the same or complete, 1 for different, 2 for trouble: then nothing that was written may be used.\n",
-        out,
-        err,
-    )
+The status is 0 for the same or complete, 1 for different, 2 for trouble: then nothing that was written may be used.\n"
 }
 
-fn unknown(command: &[u8], err: i32) -> usize {
+fn general_help<W: Write, E: Write>(out: &mut W, err: &mut E) -> usize {
+    write_help(general_text(), out, err)
+}
+
+// The help of all commands where the data would not be looked for, on the error stream.
+pub(crate) fn tell_help<E: Write>(err: &mut E) {
+    if let Err(error) = write_whole(err, general_text()) {
+        incomplete(err, &error);
+    }
+}
+
+fn unknown<E: Write>(command: &[u8], err: &mut E) -> usize {
     let _told = tell(
         err,
         b"ERROR: unknown command ",
@@ -47,7 +57,12 @@ fn unknown(command: &[u8], err: i32) -> usize {
 }
 
 // The help of one command, or of all where none is named.
-pub(crate) fn command_help(command: &[u8], named: bool, out: i32, err: i32) -> usize {
+pub(crate) fn command_help<W: Write, E: Write>(
+    command: &[u8],
+    named: bool,
+    out: &mut W,
+    err: &mut E,
+) -> usize {
     if !named {
         return general_help(out, err);
     }

@@ -1,6 +1,7 @@
 use byte_texts::append_name;
 use listing_pieces::{first_page, next_piece};
 use listings::{Job, Stage};
+use std::io::Write;
 use tool_files::{incomplete, part, tell, write_whole};
 
 fn is_over(stage: Stage) -> bool {
@@ -13,16 +14,16 @@ fn is_over(stage: Stage) -> bool {
 }
 
 // Writes what the job has to say of two sets, piece by piece. False where not all of it was written: it was said why.
-pub(crate) fn write_pieces(
+pub(crate) fn write_pieces<W: Write, E: Write>(
     job: Job,
     words: &[u64],
     other: &[u64],
     name: &[u8],
     other_name: &[u8],
-    out: i32,
-    err: i32,
+    out: &mut W,
+    err: &mut E,
 ) -> bool {
-    let mut buffer = io::large_buffer();
+    let mut buffer = [0u8; 65536];
     let mut page = first_page(job);
     let mut turns: usize = 1000000;
     while turns > 0 {
@@ -32,8 +33,8 @@ pub(crate) fn write_pieces(
             let _told = tell(err, b"INCOMPLETE: not all could be listed", b"", b"");
             return false;
         }
-        if !write_whole(out, part(&buffer, 0, piece.length)) {
-            incomplete(err, os::errno());
+        if let Err(error) = write_whole(out, part(&buffer, 0, piece.length)) {
+            incomplete(err, &error);
             return false;
         }
         page = piece.page;
@@ -47,15 +48,15 @@ pub(crate) fn write_pieces(
 }
 
 // The same with the names as they are given, and nothing at all where `quiet`.
-pub(crate) fn write_job(
+pub(crate) fn write_job<W: Write, E: Write>(
     job: Job,
     quiet: bool,
     words: &[u64],
     other: &[u64],
     name: &[u8],
     other_name: &[u8],
-    out: i32,
-    err: i32,
+    out: &mut W,
+    err: &mut E,
 ) -> bool {
     if quiet {
         return true;

@@ -3,18 +3,20 @@ use crate::listing::write_job;
 use crate::options::Options;
 use listings::Job;
 use pair_listings::move_members;
+use std::io::{Input, Write};
+use std::rt::Files;
 use tool_files::{load, load_pairs, tell};
 use tool_pairs::{all_paired, write_back, write_pairs};
 use whole_walks::Walk;
 
 // The list of the new offsets.
-fn write_moved(
+fn write_moved<W: Write, E: Write>(
     options: Options,
     words: &[u64],
     to: &[u64],
     name: &[u8],
-    out: i32,
-    err: i32,
+    out: &mut W,
+    err: &mut E,
 ) -> bool {
     let mut moved: [u64; 1024] = [0; 1024];
     let made = move_members(words, to, &mut moved);
@@ -34,14 +36,14 @@ fn write_moved(
 }
 
 // What is asked for: the new offsets, each old offset with its new one, or the pairs for the way back.
-fn write_renumbered(
+fn write_renumbered<W: Write, E: Write>(
     options: Options,
     words: &[u64],
     to: &[u64],
     from: &[u64],
     name: &[u8],
-    out: i32,
-    err: i32,
+    out: &mut W,
+    err: &mut E,
 ) -> bool {
     if options.quiet {
         return true;
@@ -60,7 +62,13 @@ fn write_renumbered(
 }
 
 // The offsets of one file renumbered by the pairs of another.
-pub(crate) fn renumber(arguments: &[u8], options: Options, out: i32, err: i32) -> usize {
+pub(crate) fn renumber<R: Files + Input, W: Write, E: Write>(
+    rt: &R,
+    arguments: &[u8],
+    options: Options,
+    out: &mut W,
+    err: &mut E,
+) -> usize {
     if options.operands != 3 {
         let _told = tell(
             err,
@@ -96,6 +104,7 @@ pub(crate) fn renumber(arguments: &[u8], options: Options, out: i32, err: i32) -
     let pairs_name = operand(arguments, 1);
     let name = operand(arguments, 2);
     if !load_pairs(
+        rt,
         pairs_name,
         size,
         options.allow_empty,
@@ -105,7 +114,7 @@ pub(crate) fn renumber(arguments: &[u8], options: Options, out: i32, err: i32) -
     ) {
         return 2;
     }
-    if !load(name, options.allow_empty, err, &mut words, &mut table) {
+    if !load(rt, name, options.allow_empty, err, &mut words, &mut table) {
         return 2;
     }
     if !all_paired(&words, &table, &to, name, pairs_name, err) {

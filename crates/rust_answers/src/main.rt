@@ -7,6 +7,8 @@ mod numbers;
 use histories::{Fed, Tally, feed};
 use io::{print_decimal, write_all};
 use numbers::Reading;
+use std::fs;
+use std::io::Read;
 
 #[derive(Clone, Copy)]
 struct Turn {
@@ -15,33 +17,30 @@ struct Turn {
 }
 
 // Reads once and replays the lines that end in what came.
-fn read_some(
-    fd: i32,
+fn read_some<F: Read>(
+    file: &mut F,
     fed: Fed,
     numbers: &mut [u64],
     words: &mut [u64],
     other: &mut [u64],
     out: &mut [u64],
 ) -> Turn {
-    let mut buf = io::buffer();
-    let got = libc::read(fd, &mut buf);
-    if got <= 0 {
-        return Turn {
+    let mut buf = [0u8; 4096];
+    match file.read(&mut buf) {
+        Ok(0) | Err(_) => Turn {
             fed,
             goes_on: false,
-        };
-    }
-    let n = io::count(got, &buf);
-    let after = feed(&buf[..n], fed, numbers, words, other, out);
-    Turn {
-        fed: after,
-        goes_on: true,
+        },
+        Ok(n) => Turn {
+            fed: feed(&buf[..n], fed, numbers, words, other, out),
+            goes_on: true,
+        },
     }
 }
 
 // A proved loop has to end, and nothing says that a file does: so its turns are counted down.
-fn read_all(
-    fd: i32,
+fn read_all<F: Read>(
+    file: &mut F,
     fed: Fed,
     numbers: &mut [u64],
     words: &mut [u64],
@@ -52,7 +51,7 @@ fn read_all(
     let mut turns: u64 = 1000000;
     while turns > 0 {
         turns -= 1;
-        let turn = read_some(fd, now, numbers, words, other, out);
+        let turn = read_some(file, now, numbers, words, other, out);
         let after = turn.fed;
         now = after;
         if !turn.goes_on {
@@ -62,7 +61,7 @@ fn read_all(
     now
 }
 
-fn replay_file(fd: i32) -> Tally {
+fn replay_file<F: Read>(file: &mut F) -> Tally {
     let mut numbers: [u64; 512] = [0; 512];
     let mut words: [u64; 1024] = [7; 1024];
     let mut other: [u64; 1024] = [9; 1024];
@@ -74,7 +73,7 @@ fn replay_file(fd: i32) -> Tally {
             different: 0,
         },
     };
-    let fed = read_all(fd, fed, &mut numbers, &mut words, &mut other, &mut out);
+    let fed = read_all(file, fed, &mut numbers, &mut words, &mut other, &mut out);
     fed.tally
 }
 
@@ -82,14 +81,12 @@ fn say(text: &[u8]) {
     let _written = write_all(1, text);
 }
 
-fn main() {
-    let fd = os::open_read(b"rust-answers.txt");
-    if fd < 0 {
+fn main(rt: HostRuntime) {
+    let Ok(mut file) = fs::open(&rt, "rust-answers.txt") else {
         say(b"rust-answers.txt cannot be read: nothing was compared\n");
         return;
-    }
-    let tally = replay_file(fd);
-    let _closed = libc::close(fd);
+    };
+    let tally = replay_file(&mut file);
     let _histories = print_decimal(1, tally.histories);
     say(b" histories of the Rust replayed: ");
     if tally.different == 0 {

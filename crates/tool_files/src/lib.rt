@@ -1,4 +1,4 @@
-// Files read by calls of the operating system, and what is said of them; texts written whole.
+// Files read through the handles that the system gives, and what is said of them; texts written whole.
 #![tactic(auto)]
 
 mod messages;

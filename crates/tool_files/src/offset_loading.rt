@@ -5,13 +5,15 @@ ghost use Rattle.offset_files.specs.Holds.{HoldsText};
 ghost use Rattle.tool_files.specs.Loading.{Took, ReadSome, Usable};
 
 use crate::messages::{tell, tell_number};
-use crate::opening::{close_file, open_file};
+use crate::opening::open_file;
 use crate::parts::part;
 use crate::reads::{Got, Reads, after_read, first_read, read_some};
 use crate::reports::{tell_bads, tell_report, tell_unread};
 use byte_texts::append_name;
 use offset_files::Reading;
 use offset_reads::{finish, start, take};
+use std::io::{Input, Read, Write};
+use std::rt::Files;
 
 // A read, and the reading with its bytes.
 #[derive(Clone, Copy)]
@@ -20,8 +22,8 @@ struct Piece {
     got: Got,
 }
 
-fn read_piece(
-    fd: i32,
+fn read_piece<F: Read>(
+    file: &mut F,
     reading: Reading,
     name: &[u8],
     line: &mut [u8],
@@ -32,8 +34,8 @@ fn read_piece(
     ensures { Took (take_line name.now) (λ t. HoldsText t reading line.old words.old table.old report.old)
         (λ t. HoldsText t result.reading line.new words.new table.new report.new) }
 {
-    let mut buffer = io::large_buffer();
-    let got = read_some(fd, &mut buffer);
+    let mut buffer = [0u8; 65536];
+    let got = read_some(file, &mut buffer);
     let count = got.count;
     let after = take(&buffer[..count], reading, name, line, words, table, report);
     Piece {
@@ -44,37 +46,43 @@ fn read_piece(
 
 // All reads of a file, and the reading with their bytes.
 #[derive(Clone, Copy)]
-struct Read {
+struct WholeRead {
     reading: Reading,
     reads: Reads,
 }
 
-fn read_pieces(
-    fd: i32,
+fn read_pieces<F: Read>(
+    file: &mut F,
     name: &[u8],
     line: &mut [u8],
     words: &mut [u64],
     table: &mut [u64],
     report: &mut [u8],
-) -> Read
+) -> WholeRead
     ensures { 2052 ≤ length line.old → length words.old ≡ 1024 → length table.old ≡ 65536
         → ReadSome (take_line name.now) no_text (λ t. HoldsText t result.reading line.new words.new table.new report.new) }
 {
     let mut now = start(words, table);
     let mut reads = first_read();
     while reads.left > 0 {
-        let piece = read_piece(fd, now, name, line, words, table, report);
+        let piece = read_piece(file, now, name, line, words, table, report);
         now = piece.reading;
         reads = after_read(reads, piece.got);
     }
-    Read {
+    WholeRead {
         reading: now,
         reads,
     }
 }
 
 // What is said of a file that was read. False where it may not be used, or where that could not be said.
-fn tell_file(reading: Reading, name: &[u8], allow_empty: bool, err: i32, report: &[u8]) -> bool {
+fn tell_file<E: Write>(
+    reading: Reading,
+    name: &[u8],
+    allow_empty: bool,
+    err: &mut E,
+    report: &[u8],
+) -> bool {
     if !tell_report(name, err, report, reading.report) {
         return false;
     }
@@ -105,12 +113,12 @@ fn tell_file(reading: Reading, name: &[u8], allow_empty: bool, err: i32, report:
     true
 }
 
-fn load_open(
-    fd: i32,
+fn load_open<F: Read, E: Write>(
+    file: &mut F,
     name: &[u8],
     shown: &[u8],
     allow_empty: bool,
-    err: i32,
+    err: &mut E,
     words: &mut [u64],
     table: &mut [u64],
 ) -> bool
@@ -124,10 +132,10 @@ fn load_open(
     }
     let mut line = [0u8; 2052];
     let mut report = [0u8; 16384];
-    let read = read_pieces(fd, shown, &mut line, words, table, &mut report);
+    let read = read_pieces(file, shown, &mut line, words, table, &mut report);
     let reads = read.reads;
     if !reads.ended {
-        tell_unread(name, err, reads.error);
+        tell_unread(name, err, &reads.error);
         return false;
     }
     let open = read.reading;
@@ -140,19 +148,21 @@ fn load_open(
 }
 
 // The offsets of a file as the members of a set of 65,536 bits; `-` is the standard input. False where the file may not be used: it was said why.
-pub fn load(name: &[u8], allow_empty: bool, err: i32, words: &mut [u64], table: &mut [u64]) -> bool
+pub fn load<R: Files + Input, E: Write>(
+    rt: &R,
+    name: &[u8],
+    allow_empty: bool,
+    err: &mut E,
+    words: &mut [u64],
+    table: &mut [u64],
+) -> bool
     ensures { result ≡ true → Usable (shown_name name.now) words.new }
 {
     let mut space = [0u8; 64];
     let end = append_name(&mut space, 0, name);
     let shown = part(&space, 0, end);
-    let fd = open_file(name, err);
-    if fd < 0 {
+    let Some(mut file) = open_file(rt, name, err) else {
         return false;
-    }
-    let usable = load_open(fd, name, shown, allow_empty, err, words, table);
-    if !close_file(fd, name, err) {
-        return false;
-    }
-    usable
+    };
+    load_open(&mut file, name, shown, allow_empty, err, words, table)
 }

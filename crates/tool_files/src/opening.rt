@@ -1,26 +1,48 @@
-use crate::messages::tell_error;
+use crate::messages::{tell, tell_error};
 use check::same;
+use std::io::{Input, Read, Write};
+use std::rt::Files;
+use std::{fs, io, str};
 
-// A descriptor of the file, below 0 where it cannot be opened: it was said why. `-` is the standard input.
-pub(crate) fn open_file(name: &[u8], err: i32) -> i32 {
-    if same(name, b"-") {
-        return 0;
-    }
-    let fd = os::open_read(name);
-    if fd < 0 {
-        let _told = tell_error(err, b"ERROR: ", name, b" cannot be opened: ", os::errno());
-    }
-    fd
+// What is read: the standard input, or a file that was opened.
+#[derive(Drop)]
+pub(crate) enum Source<I, F> {
+    Input(I),
+    File(F),
 }
 
-// False where a file cannot be closed: it was said why. The standard input stays open.
-pub(crate) fn close_file(fd: i32, name: &[u8], err: i32) -> bool {
+impl<I: Read, F: Read> Read for Source<I, F> {
+    fn read(&mut self, buffer: &mut [u8]) -> io::Result<usize> {
+        match self {
+            Source::Input(input) => input.read(buffer),
+            Source::File(file) => file.read(buffer),
+        }
+    }
+}
+
+// A file that is open, none where it cannot be opened: it was said why. `-` is the standard input.
+pub(crate) fn open_file<R: Files + Input, E: Write>(
+    rt: &R,
+    name: &[u8],
+    err: &mut E,
+) -> Option<Source<R::Reader, R::File>> {
     if same(name, b"-") {
-        return true;
+        return Some(Source::Input(rt.reader()));
     }
-    if libc::close(fd) != 0 {
-        let _told = tell_error(err, b"ERROR: ", name, b" cannot be closed: ", os::errno());
-        return false;
+    let Ok(path) = str::from_utf8(name) else {
+        let _told = tell(
+            err,
+            b"ERROR: ",
+            name,
+            b" cannot be opened: the name is no UTF-8",
+        );
+        return None;
+    };
+    match fs::open(rt, path) {
+        Ok(file) => Some(Source::File(file)),
+        Err(error) => {
+            let _told = tell_error(err, b"ERROR: ", name, b" cannot be opened: ", &error);
+            None
+        }
     }
-    true
 }

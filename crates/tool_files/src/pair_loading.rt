@@ -5,12 +5,14 @@ ghost use Rattle.pair_files.specs.Holds.{HoldsText};
 ghost use Rattle.tool_files.specs.Loading.{Took, ReadSome, UsablePairs};
 
 use crate::messages::tell;
-use crate::opening::{close_file, open_file};
+use crate::opening::open_file;
 use crate::parts::part;
 use crate::reads::{Got, Reads, after_read, first_read, read_some};
 use crate::reports::{tell_bads, tell_report, tell_unread};
 use byte_texts::append_name;
 use pair_files::{PairReading, finish, start, take};
+use std::io::{Input, Read, Write};
+use std::rt::Files;
 
 // A read, and the reading with its bytes.
 #[derive(Clone, Copy)]
@@ -19,8 +21,8 @@ struct PairPiece {
     got: Got,
 }
 
-fn read_pair_piece(
-    fd: i32,
+fn read_pair_piece<F: Read>(
+    file: &mut F,
     reading: PairReading,
     name: &[u8],
     size: usize,
@@ -32,8 +34,8 @@ fn read_pair_piece(
     ensures { Took (take_pair name.now size) (λ t. HoldsText t reading line.old to.old from.old report.old)
         (λ t. HoldsText t result.reading line.new to.new from.new report.new) }
 {
-    let mut buffer = io::large_buffer();
-    let got = read_some(fd, &mut buffer);
+    let mut buffer = [0u8; 65536];
+    let got = read_some(file, &mut buffer);
     let count = got.count;
     let after = take(
         &buffer[..count],
@@ -58,8 +60,8 @@ struct PairRead {
     reads: Reads,
 }
 
-fn read_pair_pieces(
-    fd: i32,
+fn read_pair_pieces<F: Read>(
+    file: &mut F,
     name: &[u8],
     size: usize,
     line: &mut [u8],
@@ -73,7 +75,7 @@ fn read_pair_pieces(
     let mut now = start(to, from);
     let mut reads = first_read();
     while reads.left > 0 {
-        let piece = read_pair_piece(fd, now, name, size, line, to, from, report);
+        let piece = read_pair_piece(file, now, name, size, line, to, from, report);
         now = piece.reading;
         reads = after_read(reads, piece.got);
     }
@@ -84,11 +86,11 @@ fn read_pair_pieces(
 }
 
 // What is said of a file that was read. False where it may not be used, or where that could not be said.
-fn tell_pairs(
+fn tell_pairs<E: Write>(
     reading: PairReading,
     name: &[u8],
     allow_empty: bool,
-    err: i32,
+    err: &mut E,
     report: &[u8],
 ) -> bool {
     if !tell_report(name, err, report, reading.report) {
@@ -109,13 +111,13 @@ fn tell_pairs(
     true
 }
 
-fn load_open_pairs(
-    fd: i32,
+fn load_open_pairs<F: Read, E: Write>(
+    file: &mut F,
     name: &[u8],
     shown: &[u8],
     size: usize,
     allow_empty: bool,
-    err: i32,
+    err: &mut E,
     to: &mut [u64],
     from: &mut [u64],
 ) -> bool
@@ -129,10 +131,10 @@ fn load_open_pairs(
     }
     let mut line = [0u8; 2052];
     let mut report = [0u8; 16384];
-    let read = read_pair_pieces(fd, shown, size, &mut line, to, from, &mut report);
+    let read = read_pair_pieces(file, shown, size, &mut line, to, from, &mut report);
     let reads = read.reads;
     if !reads.ended {
-        tell_unread(name, err, reads.error);
+        tell_unread(name, err, &reads.error);
         return false;
     }
     let open = read.reading;
@@ -145,11 +147,12 @@ fn load_open_pairs(
 }
 
 // The pairs of a file as a table of each side, for a new set of `size` bits; `-` is the standard input. False where the file may not be used: it was said why.
-pub fn load_pairs(
+pub fn load_pairs<R: Files + Input, E: Write>(
+    rt: &R,
     name: &[u8],
     size: usize,
     allow_empty: bool,
-    err: i32,
+    err: &mut E,
     to: &mut [u64],
     from: &mut [u64],
 ) -> bool
@@ -158,13 +161,8 @@ pub fn load_pairs(
     let mut space = [0u8; 64];
     let end = append_name(&mut space, 0, name);
     let shown = part(&space, 0, end);
-    let fd = open_file(name, err);
-    if fd < 0 {
+    let Some(mut file) = open_file(rt, name, err) else {
         return false;
-    }
-    let usable = load_open_pairs(fd, name, shown, size, allow_empty, err, to, from);
-    if !close_file(fd, name, err) {
-        return false;
-    }
-    usable
+    };
+    load_open_pairs(&mut file, name, shown, size, allow_empty, err, to, from)
 }

@@ -1,29 +1,35 @@
 ghost use Rattle.std.specs.Prelude.{◌+◌, ◌<◌};
 ghost use Rattle.io.specs.Counts.{IsPrefixLen};
 
-// What a read gave: how many bytes came, and the error where it failed, 0 where it did not.
+use std::io;
+use std::io::{ErrorKind, Read};
+
+// What a read gave: how many bytes came, and the error where it failed.
 #[derive(Clone, Copy)]
 pub(crate) struct Got {
     pub count: usize,
-    pub error: i32,
+    pub error: Option<io::Error>,
 }
 
-pub(crate) fn read_some(fd: i32, buffer: &mut [u8]) -> Got
+pub(crate) fn read_some<F: Read>(file: &mut F, buffer: &mut [u8]) -> Got
     ensures { IsPrefixLen result.count buffer.new }
 {
-    let got = libc::read(fd, buffer);
-    let error = if got < 0 { os::errno() } else { 0 };
-    let count = io::count(got, buffer);
-    Got { count, error }
+    match file.read(buffer) {
+        Ok(count) => Got { count, error: None },
+        Err(error) => Got {
+            count: 0,
+            error: Some(error),
+        },
+    }
 }
 
-// The reads of a file: how many bytes may still come, 0 once the reads are over, and how many signals; then whether the file ended, and if not the error, 0 at the limit.
+// The reads of a file: how many bytes may still come, 0 once the reads are over, and how many signals; then whether the file ended, and if not the error, none at the limit.
 #[derive(Clone, Copy)]
 pub(crate) struct Reads {
     pub left: usize,
     pub signals: usize,
     pub ended: bool,
-    pub error: i32,
+    pub error: Option<io::Error>,
 }
 
 // The limit is 16 MiB: a proved loop has to end, and nothing says that a file does.
@@ -32,7 +38,7 @@ pub(crate) fn first_read() -> Reads {
         left: 16777217,
         signals: 1000,
         ended: false,
-        error: 0,
+        error: None,
     }
 }
 
@@ -41,8 +47,8 @@ pub(crate) fn after_read(reads: Reads, got: Got) -> Reads
     ensures { 0 < reads.left → result.left + result.signals < reads.left + reads.signals }
 {
     let mut next = reads;
-    if got.error != 0 {
-        if reads.signals == 0 || got.error != libc::EINTR {
+    if let Some(error) = got.error {
+        if reads.signals == 0 || error.kind() != ErrorKind::Interrupted {
             next.left = 0;
             next.error = got.error;
             return next;

@@ -1,19 +1,26 @@
-// Writes all of the bytes: a short write goes on with the rest, and one that a signal broke off is made again. False at the first write that fails.
-pub fn write_whole(fd: i32, bytes: &[u8]) -> bool {
+ghost use Rattle.std.specs.Prelude.{OnOk};
+ghost use Rattle.std.specs.Io.KnownBytes.{Appends};
+
+use std::io;
+use std::io::{Error, ErrorKind, Write};
+
+// Writes all of the bytes: a short write goes on with the rest, and one that a signal broke off is made again. An error at the first write that fails.
+pub fn write_whole<W: Write>(out: &mut W, bytes: &[u8]) -> io::Result<()>
+    ensures { OnOk result (Appends (W.contents out.old) (W.contents out.new) bytes.now) }
+{
     let mut done: usize = 0;
     let mut signals: usize = 1000;
     while done < bytes.len() {
-        let rest = &bytes[done..];
-        let got = libc::write(fd, rest);
-        let count = io::count(got, rest);
-        if count == 0 {
-            if signals == 0 || os::errno() != libc::EINTR {
-                return false;
+        match out.write(&bytes[done..]) {
+            Ok(0) => return Err(Error::from(ErrorKind::WriteZero)),
+            Ok(count) => done += count,
+            Err(error) => {
+                if signals == 0 || error.kind() != ErrorKind::Interrupted {
+                    return Err(error);
+                }
+                signals -= 1;
             }
-            signals -= 1;
-        } else {
-            done += count;
         }
     }
-    true
+    Ok(())
 }

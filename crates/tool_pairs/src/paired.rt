@@ -4,6 +4,7 @@ ghost use Rattle.pair_listings.specs.Tables.{entry_of, offsets_of, unpaired_coun
 use byte_texts::append_name;
 use pair_listings::{append_unpaired, count_unpaired, first_unpaired};
 use sets::Position;
+use std::io::Write;
 use tool_files::{part, tell_number, write_whole};
 
 // The message of one member that no pair names. `table` has the lines of the old file.
@@ -50,13 +51,13 @@ fn append_members(
 }
 
 // Whether every offset of the old file has a pair. Where not, it was said of which: of the first 20, and how many more.
-pub fn all_paired(
+pub fn all_paired<E: Write>(
     words: &[u64],
     table: &[u64],
     to: &[u64],
     old_name: &[u8],
     pairs_name: &[u8],
-    err: i32,
+    err: &mut E,
 ) -> bool
     ensures { result ≡ true → unpaired_count (entry_of to.now) (offsets_of words.now) ≡ 0 }
 {
@@ -77,7 +78,7 @@ pub fn all_paired(
         part(&old, 0, old_end),
         part(&pairs, 0, pairs_end),
     );
-    if !write_whole(err, part(&report, 0, end)) {
+    if write_whole(err, part(&report, 0, end)).is_err() {
         return false;
     }
     if count > 20 {

@@ -1,4 +1,5 @@
 use pair_listings::{Job, Stage, first_page, named_set, next_piece};
+use std::io::Write;
 use tool_files::{incomplete, part, tell, write_whole};
 
 fn is_over(stage: Stage) -> bool {
@@ -10,8 +11,14 @@ fn is_over(stage: Stage) -> bool {
 }
 
 // Writes the pair of each member of a set by a table, piece by piece. False where not all of it was written: it was said why.
-pub fn write_pairs(job: Job, words: &[u64], table: &[u64], out: i32, err: i32) -> bool {
-    let mut buffer = io::large_buffer();
+pub fn write_pairs<W: Write, E: Write>(
+    job: Job,
+    words: &[u64],
+    table: &[u64],
+    out: &mut W,
+    err: &mut E,
+) -> bool {
+    let mut buffer = [0u8; 65536];
     let mut page = first_page(job);
     let mut turns: usize = 1000000;
     while turns > 0 {
@@ -21,8 +28,8 @@ pub fn write_pairs(job: Job, words: &[u64], table: &[u64], out: i32, err: i32) -
             let _told = tell(err, b"INCOMPLETE: not all could be listed", b"", b"");
             return false;
         }
-        if !write_whole(out, part(&buffer, 0, piece.length)) {
-            incomplete(err, os::errno());
+        if let Err(error) = write_whole(out, part(&buffer, 0, piece.length)) {
+            incomplete(err, &error);
             return false;
         }
         page = piece.page;
@@ -36,7 +43,7 @@ pub fn write_pairs(job: Job, words: &[u64], table: &[u64], out: i32, err: i32) -
 }
 
 // The pairs file swapped: every pair by its new offset.
-pub fn write_back(job: Job, from: &[u64], out: i32, err: i32) -> bool {
+pub fn write_back<W: Write, E: Write>(job: Job, from: &[u64], out: &mut W, err: &mut E) -> bool {
     let mut named: [u64; 1024] = [0; 1024];
     let made = named_set(from, &mut named);
     let number = made.number;

@@ -1,0 +1,7 @@
+-- A file that may be used is a whole text with no bad line.
+use Rattle.std.proofs.Common.{arith}
+use Rattle.tool_files.proofs.LoadLaws.{read_end, usable}
+use Rattle.tool_files.proofs.offset_loading.load_open.Goals as goal
+
+pub returns : goal.returns
+returns g c e = usable (read_end (c.read_pieces-read.ensures (omega arith) c.if-words-ne1024.false c.if-table-ne65536.false) c.finish-reading.ensures) c.if-reading-ne0.false
