@@ -26,7 +26,7 @@ use Rattle.sets.proofs.WordLaws.{bit_at}
 use Rattle.tests.proofs.PartLaws.{part_below, part_above, masked_digit, in_range}
 use Rattle.tests.specs.Helpers.{differs}
 
--- ---- the inRange of a row that a range covers
+-- ---- the in_range of a row that a range covers
 
 module _ (start end : ℕ) (f : ℕ → Bool) where
   some_part : (p : ℕ) → in_range start end f p ≡ true → some end (in_range start end f) ≡ true
