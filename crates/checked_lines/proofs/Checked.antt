@@ -1,7 +1,6 @@
 -- Every line of the table is what the definitions answer: one computation for all of it. Assumes nothing.
 use mathlib.Core.Path.{◌≡◌, refl}
-use mathlib.Core.List.{List, map}
-use Prim.Native.Nat.{ℕ}
+use mathlib.Core.List.{map}
 use Rattle.word_bits.specs.Counts.{count, some, all, zeros_below, zeros_above}
 use Rattle.word_bits.specs.Digits.{digit, number, word_of}
 use Rattle.word_bits.specs.LastBit.{unset}

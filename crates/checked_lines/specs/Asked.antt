@@ -1,5 +1,5 @@
 -- What a line of document 01 asks, and what the definitions that the contracts cite answer, as numbers.
-use Rattle.std.specs.Prelude.{Bool, cond, List, [], ◌∷◌, ◌++◌, ℕ, eqb, length, replicate}
+use Rattle.std.specs.Prelude.{cond, List, [], ◌∷◌, ◌++◌, ℕ, eqb, length, replicate}
 use Rattle.word_bits.specs.Digits.{one}
 use Rattle.word_bits.specs.LastBit.{last_bit_rule}
 use Rattle.word_bits.specs.declared.last_bit.LastBit.{LastBit}

@@ -4,7 +4,6 @@ use mathlib.Core.Bool.{Bool, true, false, cond}
 use mathlib.Core.List.{List}
 use Prim.Native.Nat.{ℕ, ◌<◌}
 use native.Mathlib.Omega.{arith}
-use lib.ListN.{length}
 use Rattle.sets.specs.Members.{Members}
 use Rattle.sets.specs.Questions.{both_questions}
 use Rattle.two_set_counts.specs.Lists.{difference_list}

@@ -2,7 +2,7 @@
 use mathlib.Core.Path.{◌≡◌, refl, sym, ap, ap₂, ◌∙◌}
 use mathlib.Core.Bool.{Bool}
 use mathlib.Core.List.{List, [], ◌∷◌, ◌++◌, reverse, append_assoc}
-use Prim.Native.Nat.{ℕ, zero, suc, ◌+◌, min}
+use Prim.Native.Nat.{ℕ, zero, suc, min}
 use lib.ListN.{length}
 use Rattle.sets.specs.Members.{Members, set_of}
 use Rattle.sets.specs.Outcomes.{position_of}
@@ -10,8 +10,8 @@ use Rattle.sets.specs.declared.answers.Part.{Part}
 use Rattle.sets.proofs.WriteLaws.{Clipped}
 use Rattle.parts.specs.declared.records.End.{End}
 use Rattle.parts.specs.declared.records.End.TheVariants.{Front, Back}
-use Rattle.walks.specs.Rules.{first_part, PairStep, pair_step}
-use Rattle.whole_walks.specs.Walks.{walk_list, first_row, second_row, answers_from, answers}
+use Rattle.walks.specs.Rules.{first_part, pair_step}
+use Rattle.whole_walks.specs.Walks.{first_row, second_row, answers_from}
 use Rattle.whole_walks.specs.Walked.{fronts, backs}
 use Rattle.whole_walks.specs.declared.walk.Walk.{Walk}
 use Rattle.whole_walks.proofs.PartLists.{left_first}

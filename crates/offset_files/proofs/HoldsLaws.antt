@@ -6,7 +6,7 @@ use Prim.Native.Nat.{ℕ, ◌+◌, ◌*◌, ◌/◌, ◌%◌, ◌≤◌, ◌<◌
 use native.Mathlib.Omega.{arith}
 use borrow.Author.Tests.{eq-eqb, ne_eqb, eqb-true, eqb-false}
 use lib.Dec.{eqb, ltb}
-use lib.ListN.{length, get_or, set as set_at, length-set}
+use lib.ListN.{get_or, set as set_at, length-set}
 use Rattle.byte_texts.specs.Texts.{written}
 use Rattle.sets.specs.Members.{read}
 use Rattle.sets.specs.Outcomes.{Outcome}

@@ -1,17 +1,15 @@
 -- A renumbering that no question refuses. Assumes nothing.
-use mathlib.Core.Path.{◌≡◌, refl, sym, ap, ap₂, ◌∙◌}
-use mathlib.Core.Bool.{Bool, true, false, cond, not, ◌&&◌, true≢false}
+use mathlib.Core.Path.{◌≡◌, refl, sym, ap}
+use mathlib.Core.Bool.{Bool, true, false, cond, not, ◌&&◌}
 use mathlib.Core.List.{List}
-use mathlib.Core.Logic.{◌⊎◌, inl, inr}
-use Prim.Native.Nat.{ℕ, suc, ◌≤◌, ◌<◌}
+use Prim.Native.Nat.{ℕ, ◌<◌}
 use native.Mathlib.Omega.{arith}
 use lib.ListN.{length}
 use Rattle.word_bits.specs.Counts.{some}
 use Rattle.word_bits.proofs.Quantifiers.{none_of, some_no}
-use Rattle.word_bits.proofs.Order.{lt-or-le}
-use Rattle.sets.specs.Members.{Members, words_of, read, write, empty, set_of}
+use Rattle.sets.specs.Members.{read, write, empty, set_of}
 use Rattle.sets.specs.Questions.{first, questions, new_questions, positions_question}
-use Rattle.sets.specs.Outcomes.{Outcome, given}
+use Rattle.sets.specs.Outcomes.{Outcome}
 use Rattle.sets.specs.declared.fixed_bit_set.FixedBitSet.{FixedBitSet}
 use Rattle.sets.proofs.OutcomeLaws.{given-accepted}
 use Rattle.sets.proofs.QuestionLaws.{Valid, valid, valid_yes, first-both, first-yes, room, Room, room_yes}

@@ -3,28 +3,26 @@ use mathlib.Core.Path.{◌≡◌, refl, sym, ap, ap₂, ◌∙◌}
 use mathlib.Core.Bool.{Bool, true, false, cond, ◌&&◌, ◌||◌, true≢false}
 use mathlib.Core.List.{List, [], ◌∷◌}
 use mathlib.Core.Logic.{◌⊎◌, inl, inr}
-use Prim.Native.Nat.{ℕ, suc, ◌+◌, ◌*◌, ◌/◌, ◌%◌, ◌≤◌, ◌<◌}
+use Prim.Native.Nat.{ℕ, suc, ◌+◌, ◌*◌, ◌/◌, ◌≤◌, ◌<◌}
 use native.Mathlib.Nat.{add-suc, suc-add}
 use native.Mathlib.Omega.{arith}
 use borrow.Author.Tests.{le-leb, lt-leb, lt-ltb, eq-eqb, ne_eqb, eqb-true}
-use lib.Dec.{eqb, leb, ltb}
+use lib.Dec.{eqb, leb}
 use lib.ListN.{length, length-set}
 use Rattle.word_bits.specs.Counts.{count}
 use Rattle.word_bits.proofs.Ones.{count_ext}
 use Rattle.word_bits.proofs.Order.{lt-or-le}
 use Rattle.masks.specs.Ranges.{covers}
 use Rattle.blocks.proofs.BlockLaws.{length-swept}
-use Rattle.sets.specs.Members.{Members, words_of, bit_of, read, write, empty, set_of}
-use Rattle.sets.specs.Questions.{positions_question, range_question, range_questions, questions}
-use Rattle.sets.specs.Outcomes.{counted}
+use Rattle.sets.specs.Members.{Members, words_of, bit_of, read, empty, set_of}
+use Rattle.sets.specs.Questions.{positions_question, range_question}
 use Rattle.sets.specs.declared.answers.Counted.{Counted}
-use Rattle.sets.specs.declared.fixed_bit_set.FixedBitSet.{FixedBitSet}
 use Rattle.sets.proofs.OutcomeLaws.{given_yes}
 use Rattle.sets.proofs.QuestionLaws.{Valid, valid_yes, first-yes, position_yes}
 use Rattle.sets.proofs.WriteLaws.{bit_write}
 use Rattle.tests.specs.Rules.{count_ones_rule}
 use Rattle.edits.specs.Edits.{is_in}
-use Rattle.renumber_steps.specs.Pairs.{olds, repeats, sided, sided_pair}
+use Rattle.renumber_steps.specs.Pairs.{olds, repeats, sided}
 use Rattle.renumber_steps.specs.Passes.{Taken, taken, passed, marked, marking, aboves, cleared, all_marked, shared}
 use Rattle.renumber_steps.specs.declared.pair.Pair.{Pair}
 use Rattle.renumber_steps.specs.declared.steps.Task.TheVariants.{Mark}

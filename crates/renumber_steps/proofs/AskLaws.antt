@@ -1,12 +1,12 @@
 -- The questions of the pairs, as they are asked, and what is left where all are passed. Assumes nothing.
-use mathlib.Core.Path.{◌≡◌, refl, sym, ap, ap₂, ◌∙◌, fun_ext}
+use mathlib.Core.Path.{◌≡◌, refl, sym, ap, ap₂, ◌∙◌}
 use mathlib.Core.Bool.{Bool, true, false, cond, not, ◌&&◌, ◌||◌}
 use mathlib.Core.List.{List, [], ◌∷◌}
 use mathlib.Core.Logic.{◌⊎◌, inl, inr}
-use Prim.Native.Nat.{ℕ, zero, suc, ◌+◌, ◌≤◌, ◌<◌}
+use Prim.Native.Nat.{ℕ, zero, suc, ◌≤◌, ◌<◌}
 use native.Mathlib.Omega.{arith}
 use borrow.Author.Tests.{le-leb, lt-leb}
-use lib.Dec.{eqb, leb}
+use lib.Dec.{leb}
 use lib.ListN.{length, drop}
 use Rattle.word_bits.specs.Counts.{some, all}
 use Rattle.word_bits.proofs.Order.{lt-or-le}
@@ -14,7 +14,7 @@ use Rattle.blocks.specs.Sweeps.{swept}
 use Rattle.blocks.proofs.BlockLaws.{zeroed}
 use Rattle.sets.specs.Members.{Members, words_of, read, write, empty, set_of}
 use Rattle.sets.specs.Questions.{first, questions, new_questions, position_question, positions_question, both_questions}
-use Rattle.sets.specs.Outcomes.{Outcome, told}
+use Rattle.sets.specs.Outcomes.{Outcome}
 use Rattle.sets.specs.declared.fixed_bit_set.FixedBitSet.{FixedBitSet}
 use Rattle.sets.specs.declared.answers.Told.{Told}
 use Rattle.sets.proofs.OutcomeLaws.{given_yes, edited_no}

@@ -4,13 +4,11 @@ use mathlib.Core.Bool.{Bool, true, false, beq, ◌&&◌}
 use mathlib.Core.List.{List}
 use Prim.Native.Nat.{ℕ, ◌≤◌}
 use borrow.Author.Tests.{eq-eqb}
-use lib.Dec.{eqb}
 use lib.ListN.{length}
-use Rattle.word_bits.specs.Counts.{all}
 use Rattle.word_bits.proofs.Quantifiers.{all_yes}
-use Rattle.sets.specs.Members.{Members, words_of, read, write, empty, set_of}
+use Rattle.sets.specs.Members.{Members, words_of, read, write}
 use Rattle.sets.specs.Questions.{positions_question, both_questions}
-use Rattle.sets.specs.Outcomes.{Outcome, given}
+use Rattle.sets.specs.Outcomes.{Outcome}
 use Rattle.sets.specs.declared.fixed_bit_set.FixedBitSet.{FixedBitSet}
 use Rattle.sets.specs.declared.answers.Told.{Told}
 use Rattle.sets.proofs.OutcomeLaws.{given_yes, given_no}
@@ -20,10 +18,10 @@ use Rattle.sets.proofs.WriteLaws.{read-write}
 use Rattle.comparisons.specs.Orders.{equal}
 use Rattle.comparisons.specs.Rules.{eq_rule}
 use Rattle.renumber_steps.specs.Pairs.{olds}
-use Rattle.renumber_steps.specs.Rules.{renumber_rule, renumber_questions}
+use Rattle.renumber_steps.specs.Rules.{renumber_rule}
 use Rattle.renumber_steps.specs.Promises.{way_back, came_back, AndBack}
 use Rattle.renumber_steps.specs.declared.pair.Pair.{Pair}
-use Rattle.renumber_steps.proofs.AcceptLaws.{Accepted, accepted, accepted_by}
+use Rattle.renumber_steps.proofs.AcceptLaws.{accepted, accepted_by}
 use Rattle.renumber_steps.proofs.PromiseLaws.{back_is}
 
 -- a set is equal to itself

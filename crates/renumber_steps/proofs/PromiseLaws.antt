@@ -1,19 +1,17 @@
 -- The counts of both sets are equal, and the way back gives the old set. Assumes nothing.
 use mathlib.Core.Path.{◌≡◌, refl, sym, ap, ap₂, ◌∙◌, fun_ext}
 use mathlib.Core.Bool.{Bool, true, false, cond, not, ◌&&◌, true≢false}
-use mathlib.Core.List.{List, [], ◌∷◌, ◌++◌}
+use mathlib.Core.List.{List, [], ◌∷◌}
 use mathlib.Core.Logic.{◌⊎◌, inl, inr}
-use Prim.Native.Nat.{ℕ, suc, ◌+◌, ◌-◌, ◌^◌, ◌≤◌, ◌<◌}
+use Prim.Native.Nat.{ℕ, ◌+◌, ◌-◌, ◌^◌, ◌≤◌, ◌<◌}
 use native.Mathlib.Omega.{arith}
 use lib.ListN.{length, get_or, take, drop, length-drop}
 use lib.Seq.{ext_get_or, length-take-le, get_or-take, get_or-drop}
-use Rattle.word_bits.specs.Counts.{count}
 use Rattle.word_bits.proofs.Order.{lt-or-le}
 use Rattle.sets.specs.Members.{Members, words_of, read, write, empty, set_of}
-use Rattle.sets.specs.Questions.{first, questions, new_questions, position_question, positions_question}
-use Rattle.sets.specs.Outcomes.{Outcome, given}
+use Rattle.sets.specs.Questions.{first, position_question, positions_question}
+use Rattle.sets.specs.Outcomes.{Outcome}
 use Rattle.sets.specs.declared.fixed_bit_set.FixedBitSet.{FixedBitSet}
-use Rattle.sets.proofs.ListQuestionLaws.{positions-both}
 use Rattle.sets.proofs.QuestionLaws.{Valid, valid_yes, first-yes, first_no, Room, room_yes, position_yes, position_no}
 use Rattle.sets.proofs.OutcomeLaws.{given_yes, given-number}
 use Rattle.sets.proofs.ReadLaws.{read_above, write_valid, write_read}
@@ -22,7 +20,7 @@ use Rattle.edits.specs.Edits.{is_in}
 use Rattle.edits.proofs.ListChanges.{not_listed}
 use Rattle.renumber_steps.specs.Pairs.{olds, news, repeats, arrives, renumbered, swapped}
 use Rattle.renumber_steps.specs.Rules.{olds_question, news_question, renumber_questions, renumber_rule}
-use Rattle.renumber_steps.specs.Promises.{size, leaves, SameCount, way_back, Restored, WayBack}
+use Rattle.renumber_steps.specs.Promises.{size, leaves, SameCount, way_back, WayBack}
 use Rattle.renumber_steps.specs.declared.pair.Pair.{Pair}
 use Rattle.renumber_steps.proofs.PairListLaws.{swapped-olds, swapped-news, arrives_in, there_and_back}
 use Rattle.renumber_steps.proofs.CountLaws.{same_count}

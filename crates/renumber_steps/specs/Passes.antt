@@ -1,5 +1,5 @@
 -- What the helpers do, pair by pair.
-use Rattle.std.specs.Prelude.{Bool, true, false, cond, ◌&&◌, ◌||◌, List, [], ◌∷◌, ℕ, ◌*◌, ◌/◌, ◌%◌, ◌^◌, eqb, leb, length, get_or, set as set_at}
+use Rattle.std.specs.Prelude.{Bool, false, cond, ◌&&◌, ◌||◌, List, [], ◌∷◌, ℕ, ◌/◌, ◌%◌, ◌^◌, eqb, leb, length, get_or, set as set_at}
 use Rattle.std.specs.Int.Bits.{bit_or}
 use Rattle.blocks.specs.Sweeps.{swept}
 use Rattle.word_bits.specs.Counts.{count}

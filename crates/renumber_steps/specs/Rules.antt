@@ -1,5 +1,5 @@
 -- The rule of `renumber`: its questions in order, and what it leaves.
-use Rattle.std.specs.Prelude.{Bool, cond, ◌&&◌, not, List, ℕ, length}
+use Rattle.std.specs.Prelude.{cond, ◌&&◌, not, List, ℕ, length}
 use Rattle.word_bits.specs.Counts.{some}
 use Rattle.sets.specs.Members.{Members, read, set_of, empty}
 use Rattle.sets.specs.Questions.{first, questions, new_questions, positions_question}

@@ -9,7 +9,7 @@ use lib.Dec.{eqb}
 use lib.ListN.{length}
 use Rattle.word_bits.specs.Counts.{some, count}
 use Rattle.word_bits.specs.Digits.{one}
-use Rattle.sets.specs.Members.{Members, words_of, read, write, set_of, empty}
+use Rattle.sets.specs.Members.{words_of, read, write, set_of, empty}
 use Rattle.sets.specs.Questions.{first, questions, new_questions}
 use Rattle.sets.specs.Outcomes.{Outcome}
 use Rattle.sets.proofs.QuestionLaws.{valid_yes, first-yes, room_yes}
@@ -26,7 +26,7 @@ use Rattle.renumber_steps.proofs.PairListLaws.{arrives_in}
 use Rattle.pair_files.specs.Files.{pair_file_of}
 use Rattle.pair_files.specs.Good.{GoodPairs, has_word, names}
 use Rattle.pair_file_laws.proofs.GoodLaws.{good-file}
-use Rattle.pair_listings.specs.Tables.{all_offsets, offsets_of, entry_of, moved_by, is_unpaired, unpaired_count}
+use Rattle.pair_listings.specs.Tables.{all_offsets, offsets_of, entry_of, is_unpaired, unpaired_count}
 use Rattle.pair_listing_laws.specs.Lists.{TableOf}
 use Rattle.pair_listing_laws.proofs.TableLaws.{moved-arrives, members_asked, moved_list}
 use Rattle.tool_files.specs.Loading.{UsablePairs}

@@ -10,7 +10,7 @@ use Rattle.sets.specs.declared.answers.Part.{Part}
 use Rattle.sets.specs.declared.answers.Position.{Position}
 use Rattle.sets.specs.declared.answers.Position.TheVariants.{At, Nothing}
 use Rattle.walks.specs.Helpers.{row_step, placed}
-use Rattle.walks.specs.Rules.{or_else, PairStep, pair_step}
+use Rattle.walks.specs.Rules.{or_else, pair_step}
 use Rattle.walks.specs.declared.rows.RowStep.{RowStep}
 
 pub or-first : {q : Position} (p : ℕ) (x y : RowStep) → q ≡ At p → or_else q x y ≡ x

@@ -26,7 +26,6 @@ use Rattle.whole_walks.specs.Helpers.{selection_of, nothing_left, second_part, r
 use Rattle.whole_walks.specs.Rules.{end_of, answer_word}
 use Rattle.whole_walks.specs.declared.whole.Records.{Records}
 use Rattle.whole_walks.specs.declared.walk.Walk.{Walk}
-use Rattle.whole_walks.specs.declared.walk.Walk.TheVariants as Walk
 use Rattle.whole_walks.proofs.PartLists.{part_left, left_none}
 use Rattle.whole_walks.proofs.WalkSteps.{both_left, nothing_left_lem, row-good, same_answers}
 

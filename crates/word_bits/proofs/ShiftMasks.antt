@@ -1,5 +1,5 @@
 -- Masks as shifts of all ones make them, and the digits of a word that is shifted down or masked. Assumes nothing.
-use Rattle.std.proofs.Common.{◌≡◌, ℕ, ◌+◌, ◌-◌, ◌*◌, ◌/◌, ◌%◌, ◌^◌, ◌<◌, Bool, not, ◌&&◌, eqb, ltb, sym, refl, ap, ◌∙◌, arith, shr-shr, eqb-true}
+use Rattle.std.proofs.Common.{◌≡◌, ℕ, ◌+◌, ◌-◌, ◌*◌, ◌/◌, ◌%◌, ◌^◌, ◌<◌, Bool, not, ◌&&◌, eqb, ltb, refl, ap, ◌∙◌, shr-shr, eqb-true}
 use lib.Bits.{bit_and}
 use Rattle.word_bits.specs.Counts.{all}
 use Rattle.word_bits.specs.Digits.{digit, number}

@@ -1,5 +1,5 @@
 use mathlib.Core.Path.{refl}
-use Prim.Native.Nat.{ℕ, ◌-◌}
+use Prim.Native.Nat.{ℕ}
 use lib.ListN.{get_or}
 use Rattle.blocks.proofs.LoopLaws.{stored-none, stored_more, stored-swept}
 use native.Mathlib.Omega.{arith}

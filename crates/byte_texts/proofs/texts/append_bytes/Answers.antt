@@ -1,6 +1,4 @@
-use Prim.Native.Nat.{◌-◌}
 use native.Mathlib.Omega.{arith}
-use Rattle.byte_texts.specs.Texts.{byte_as}
 use Rattle.byte_texts.proofs.WriteLaws.{written_past, writing_start, writing_more, writing_end}
 use Rattle.byte_texts.proofs.texts.append_bytes.Goals as goal
 

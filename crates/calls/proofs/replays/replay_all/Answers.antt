@@ -1,5 +1,4 @@
 use mathlib.Core.Path.{refl}
-use Prim.Native.Nat.{◌-◌}
 use native.Mathlib.Omega.{arith}
 use Rattle.calls.proofs.ReplayLaws.{again, over}
 use Rattle.calls.proofs.replays.replay_all.Goals as goal

@@ -1,4 +1,4 @@
-use Prim.Native.Nat.{ℕ, ◌-◌}
+use Prim.Native.Nat.{ℕ}
 use lib.ListN.{get_or}
 use Rattle.tests.proofs.ScanLaws.{more}
 use Rattle.operations.specs.Operations.{masked_join}

@@ -1,5 +1,4 @@
 use mathlib.Core.Path.{◌≡◌, sym, ◌∙◌}
-use Prim.Native.Nat.{◌-◌}
 use native.Mathlib.Omega.{arith}
 use Rattle.sets.specs.Questions.{questions, positions_question}
 use Rattle.sets.proofs.QuestionLaws.{first_no, first-yes, valid}

@@ -1,6 +1,6 @@
 -- Each word k..end is 0.
 use mathlib.Core.Path.{◌≡◌}
-use Prim.Native.Nat.{ℕ, ◌≤◌, ◌<◌, ◌-◌}
+use Prim.Native.Nat.{ℕ, ◌≤◌, ◌<◌}
 use lib.ListN.{get_or}
 use Rattle.extremes.proofs.by_words.above_last.Given as goal
 

@@ -4,15 +4,14 @@ use Rattle.listing_pieces.proofs.SureLaws.{last_room, last_sure}
 use Rattle.listing_pieces.proofs.pages.last_line.Goals as goal
 
 pub returns-then-size-end : goal.returns-then-size-end
-returns-then-size-end c =
-    (
-      no_piece _ _ _ _ _,
-      λ x. absurd (omega (
-        arith,
-        c.if-size-end.true,
-        last_room _ _ _ _ _ x.short c.args.out.now c.append_last-end.ensures (omega (arith, x.room, c.append_last-end.auto.out)),
-      )),
-    )
+returns-then-size-end c = (
+  no_piece _ _ _ _ _,
+  λ x. absurd (omega (
+    arith,
+    c.if-size-end.true,
+    last_room _ _ _ _ _ x.short c.args.out.now c.append_last-end.ensures (omega (arith, x.room, c.append_last-end.auto.out)),
+  )),
+)
 
 pub returns : goal.returns
 returns c =

@@ -1,5 +1,4 @@
 use mathlib.Core.Path.{refl, ◌∙◌}
-use Prim.Native.Nat.{◌-◌}
 use Rattle.offset_lines.proofs.Texts.{return_there, return_next, return_none}
 use Rattle.offset_lines.proofs.scans.has_return.Goals as goal
 

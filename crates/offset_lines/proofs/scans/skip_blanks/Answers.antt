@@ -1,5 +1,4 @@
 use mathlib.Core.Path.{refl, sym, ◌∙◌}
-use Prim.Native.Nat.{◌-◌}
 use borrow.Author.Rules.{rules}
 use Rattle.offset_lines.proofs.Texts.{blank_next, blank_not, blank_none}
 use Rattle.offset_lines.proofs.scans.skip_blanks.Goals as goal

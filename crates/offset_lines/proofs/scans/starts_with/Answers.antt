@@ -1,5 +1,4 @@
 use mathlib.Core.Path.{refl, ◌∙◌}
-use Prim.Native.Nat.{◌-◌}
 use borrow.Author.Rules.{rules}
 use Rattle.offset_lines.proofs.Texts.{too_short, start_next, start_not, start_all}
 use Rattle.offset_lines.proofs.scans.starts_with.Goals as goal

@@ -1,4 +1,3 @@
-use Prim.Native.Nat.{◌-◌}
 use Rattle.offset_reads.proofs.ReadLaws.{taking_start, taking_byte, taking_line, taking_end}
 use Rattle.offset_reads.proofs.reads.take.Goals as goal
 

@@ -1,5 +1,5 @@
 use mathlib.Core.Path.{ap}
-use Prim.Native.Nat.{ℕ, ◌-◌}
+use Prim.Native.Nat.{ℕ}
 use lib.ListN.{get_or}
 use Rattle.blocks.proofs.LoopLaws.{stored-none, stored_more, stored_rest, stored-swept}
 use Rattle.operations.specs.Operations.{masked_join}

@@ -1,4 +1,4 @@
-use mathlib.Core.Logic.{⊎_elim, inl, inr}
+use mathlib.Core.Logic.{inl, inr}
 use mathlib.Core.Path.{sym, ◌∙◌}
 use Rattle.pair_lines.specs.Lines.{pair_line_of}
 use Rattle.pair_lines.proofs.LineLaws.{line_cut}
@@ -27,7 +27,7 @@ returns c =
     taken_as _ full _ f full
     (plain_body f.lines full e
     (elim c.if-reading-eq0.branch [
-      then-reading-eq0+else-starts_with_mark w ↦ inr (sym w.starts_with_mark.ensures ∙ w.if-starts_with_mark.false)
-    | else-reading-eq0 w ↦ inl (λ z. w.if-reading-eq0.false (h.lines ∙ z))
+      | then-reading-eq0+else-starts_with_mark w ↦ inr (sym w.starts_with_mark.ensures ∙ w.if-starts_with_mark.false)
+      | else-reading-eq0 w ↦ inl (λ z. w.if-reading-eq0.false (h.lines ∙ z))
     ]))
     (c.take_body-2.ensures f full d.is d.shown h)

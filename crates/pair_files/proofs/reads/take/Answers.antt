@@ -1,4 +1,3 @@
-use Prim.Native.Nat.{◌-◌}
 use Rattle.pair_files.proofs.ReadLaws.{taking_start, taking_byte, taking_line, taking_end}
 use Rattle.pair_files.proofs.reads.take.Goals as goal
 

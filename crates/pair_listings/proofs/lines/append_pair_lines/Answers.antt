@@ -1,4 +1,3 @@
-use Prim.Native.Nat.{◌-◌}
 use native.Mathlib.Omega.{arith}
 use Rattle.byte_texts.proofs.TextLaws.{written_then, written_same, written_inside}
 use Rattle.pair_listings.proofs.LineLaws.{lining_start, lining_more, lining_end}

@@ -1,6 +1,6 @@
 use mathlib.Core.Path.{◌≡◌, refl, ap, ◌∙◌}
 use native.Mathlib.Omega.{arith}
-use Prim.Native.Nat.{ℕ, ◌-◌}
+use Prim.Native.Nat.{ℕ}
 use Rattle.sets.specs.Members.{write}
 use Rattle.pair_listings.specs.Tables.{entry_of, named_below}
 use Rattle.pair_listings.proofs.NamedLaws.{named_start}

@@ -1,6 +1,6 @@
 use mathlib.Core.Path.{◌≡◌, refl, ap, ◌∙◌}
 use native.Mathlib.Omega.{arith}
-use Prim.Native.Nat.{ℕ, ◌-◌}
+use Prim.Native.Nat.{ℕ}
 use Rattle.sets.specs.Members.{read, write}
 use Rattle.pair_listings.specs.Tables.{offsets_of, entry_of, moved_below}
 use Rattle.pair_listings.proofs.MoveLaws.{moved_start}

@@ -1,6 +1,5 @@
 use mathlib.Core.Path.{refl, sym, ◌∙◌}
 use native.Mathlib.Omega.{arith}
-use Prim.Native.Nat.{◌-◌}
 use Rattle.word_bits.specs.Counts.{count as count_of}
 use Rattle.word_bits.proofs.Ones.{count-le}
 use Rattle.pair_listings.specs.Tables.{offsets_of, entry_of, is_unpaired}
@@ -24,8 +23,8 @@ loop-p-preserved c =
     let l = c.loop-p in (
       omega (arith, c.loop-p-test.true),
       elim c.if-is_unpaired.branch [
-        then-is_unpaired w ↦ w.count-is ∙ counting_more _ _ l.p l.invariant.1 (sym c.is_unpaired.ensures ∙ w.if-is_unpaired.true)
-      | else-is_unpaired w ↦ w.count-is ∙ counting_same _ _ l.p l.invariant.1 (sym c.is_unpaired.ensures ∙ w.if-is_unpaired.false)
+        | then-is_unpaired w ↦ w.count-is ∙ counting_more _ _ l.p l.invariant.1 (sym c.is_unpaired.ensures ∙ w.if-is_unpaired.true)
+        | else-is_unpaired w ↦ w.count-is ∙ counting_same _ _ l.p l.invariant.1 (sym c.is_unpaired.ensures ∙ w.if-is_unpaired.false)
       ],
     )
 

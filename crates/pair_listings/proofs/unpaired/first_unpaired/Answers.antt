@@ -1,6 +1,5 @@
 use mathlib.Core.Path.{sym, ◌∙◌}
 use native.Mathlib.Omega.{arith}
-use Prim.Native.Nat.{◌-◌}
 use Rattle.pair_listings.proofs.UnpairedLaws.{searching_start, searching_more, searching_found, searching_over}
 use Rattle.pair_listings.proofs.unpaired.first_unpaired.Goals as goal
 

@@ -1,6 +1,6 @@
 -- no word from k up has a selected position.
 use mathlib.Core.Path.{◌≡◌}
-use Prim.Native.Nat.{ℕ, ◌≤◌, ◌<◌, ◌-◌}
+use Prim.Native.Nat.{ℕ, ◌≤◌, ◌<◌}
 use Rattle.parts.specs.Helpers.{selected_word}
 use Rattle.parts.proofs.search.above_word.Given as goal
 
