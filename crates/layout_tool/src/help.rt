@@ -39,7 +39,7 @@ fn general_help<W: Write, E: Write>(out: &mut W, err: &mut E) -> usize {
     write_help(general_text(), out, err)
 }
 
-// The help of all commands where the data would not be looked for, on the error stream.
+// The help of all commands on the error stream, where no command is named.
 pub(crate) fn tell_help<E: Write>(err: &mut E) {
     if let Err(error) = write_whole(err, general_text()) {
         incomplete(err, &error);
