@@ -1,4 +1,4 @@
-// The layout tool around its proved core: the arguments, the commands and what they write. Data goes to one descriptor, everything else to another.
+// The layout tool around its proved core: the arguments, the commands and what they write. Data goes to one writer, everything else to another.
 #![tactic(auto)]
 
 mod arguments;
