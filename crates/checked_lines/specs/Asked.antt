@@ -11,7 +11,7 @@ use Rattle.sets.specs.declared.answers.Told.{Told}
 use Rattle.edits.specs.Rules.{insert_rule, copy_bit_rule}
 use Rattle.edits.specs.Rules.{insert_range_rule}
 use Rattle.sets.specs.declared.answers.Found.{Found}
-use Rattle.sets.specs.declared.answers.Position.TheVariants.{Nothing}
+use Rattle.std.specs.Prelude.{None}
 use Rattle.tests.specs.Rules.{is_full_rule, is_clear_rule}
 use Rattle.tests.specs.Rules.{count_ones_rule}
 use Rattle.tests.specs.Rules.{minimum_rule}
@@ -87,10 +87,10 @@ steps_from numbers front back (end ∷ ends) s =
 
 -- before the first step: each part's record as it is at first
 abbrev pub one_at_first : FixedBitSet → Stepped
-one_at_first set = record { number = 0; at = Nothing; part = first_part set }
+one_at_first set = record { number = 0; at = None; part = first_part set }
 
 abbrev pub pair_at_first : FixedBitSet → FixedBitSet → SteppedPair
-pair_at_first a b = record { number = 0; at = Nothing; one = first_part a; two = first_part b }
+pair_at_first a b = record { number = 0; at = None; one = first_part a; two = first_part b }
 
 abbrev pub answer : Asked → List ℕ
 answer (IsFull set ws) = told_numbers (is_full_rule set ws)

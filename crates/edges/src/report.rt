@@ -1,5 +1,5 @@
 use io::{print_decimal, print_hex, write_all};
-use sets::{Counted, Edited, Found, Position, Told};
+use sets::{Counted, Edited, Found, Told};
 use std::num::wrapping_add_u64;
 use word_lists::same;
 
@@ -122,10 +122,10 @@ pub fn counted(tally: Tally, text: &[u8], answer: Counted, number: u64, count: u
 }
 
 // A position as a word, 2^64 - 1 for none.
-pub fn position_word(at: Position) -> u64 {
+pub fn position_word(at: Option<usize>) -> u64 {
     match at {
-        Position::At(p) => p as u64,
-        Position::Nothing => u64::MAX,
+        Some(p) => p as u64,
+        None => u64::MAX,
     }
 }
 

@@ -1,8 +1,8 @@
 -- Answers as C takes them.
 use Rattle.std.specs.Prelude.{true, false}
 use Rattle.sets.specs.declared.answers.Found.{Found}
-use Rattle.sets.specs.declared.answers.Position.{Position}
-use Rattle.sets.specs.declared.answers.Position.TheVariants.{At, Nothing}
+use Rattle.std.specs.Prelude.{Option}
+use Rattle.std.specs.Prelude.{Some, None}
 use Rattle.walks.specs.declared.answers.Stepped.{Stepped}
 use Rattle.walks.specs.declared.answers.SteppedPair.{SteppedPair}
 use Rattle.export_answers.specs.declared.answers.Place.{Place}
@@ -11,9 +11,9 @@ use Rattle.export_answers.specs.declared.answers.FbsStepped.{FbsStepped}
 use Rattle.export_answers.specs.declared.answers.FbsSteppedPair.{FbsSteppedPair}
 
 -- a position is found; for none, 0 stands in its place
-abbrev pub place_of : Position → Place
-place_of (At p) = record { found = true; at = p }
-place_of Nothing = record { found = false; at = 0 }
+abbrev pub place_of : Option ℕ → Place
+place_of (Some p) = record { found = true; at = p }
+place_of None = record { found = false; at = 0 }
 
 unfoldable pub export_found : Found → FbsFound
 export_found r = record { number = r.number; found = (place_of r.at).found; at = (place_of r.at).at }

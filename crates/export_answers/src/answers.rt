@@ -1,7 +1,7 @@
 ghost use Rattle.std.specs.Prelude.{◌≡◌};
 ghost use Rattle.export_answers.specs.Answers.{place_of, export_found, export_stepped, export_stepped_pair};
 
-use sets::{Found, Part, Position};
+use sets::{Found, Part};
 use walks::{Stepped, SteppedPair};
 
 // C has no enum with a field: in each answer a position or none is `found` and `at`, which is 0 where none is found.
@@ -54,12 +54,12 @@ struct Place {
     at: usize,
 }
 
-fn place_of(at: Position) -> Place
+fn place_of(at: Option<usize>) -> Place
     ensures { result ≡ place_of at }
 {
     match at {
-        Position::At(p) => Place { found: true, at: p },
-        Position::Nothing => Place {
+        Some(p) => Place { found: true, at: p },
+        None => Place {
             found: false,
             at: 0,
         },

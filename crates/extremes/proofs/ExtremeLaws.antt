@@ -19,37 +19,37 @@ use Rattle.sets.specs.declared.fixed_bit_set.FixedBitSet.{FixedBitSet}
 use Rattle.sets.proofs.QuestionLaws.{Valid}
 use Rattle.sets.proofs.ReadLaws.{read_above, read-digit}
 use Rattle.sets.proofs.WordLaws.{word_of_lem}
-use Rattle.sets.specs.declared.answers.Position.TheVariants.{At, Nothing}
+use Rattle.std.specs.Prelude.{Some, None}
 use Rattle.tests.specs.Tests.{least, greatest}
 
 -- ---- of any set
 
 module _ (s : Members) where
-  none-least : ((p : ℕ) → p < s.len → s.has p ≡ false) → least s ≡ Nothing
+  none-least : ((p : ℕ) → p < s.len → s.has p ≡ false) → least s ≡ None
   none-least zs =
       let z = below_none s.len s.has zs in
-      ap (λ (x : ℕ). cond (ltb x s.len) (At x) Nothing) z
-      ∙ ap (λ (t : Bool). cond t (At s.len) Nothing) (le-ltb s.len s.len (le_refl s.len))
+      ap (λ (x : ℕ). cond (ltb x s.len) (Some x) None) z
+      ∙ ap (λ (t : Bool). cond t (Some s.len) None) (le-ltb s.len s.len (le_refl s.len))
 
-  none-greatest : ((p : ℕ) → p < s.len → s.has p ≡ false) → greatest s ≡ Nothing
+  none-greatest : ((p : ℕ) → p < s.len → s.has p ≡ false) → greatest s ≡ None
   none-greatest zs =
       let z = above_none s.len s.has zs in
-      ap (λ (x : ℕ). cond (ltb x s.len) (At (s.len - suc x)) Nothing) z
-      ∙ ap (λ (t : Bool). cond t (At (s.len - suc s.len)) Nothing) (le-ltb s.len s.len (le_refl s.len))
+      ap (λ (x : ℕ). cond (ltb x s.len) (Some (s.len - suc x)) None) z
+      ∙ ap (λ (t : Bool). cond t (Some (s.len - suc s.len)) None) (le-ltb s.len s.len (le_refl s.len))
 
   module _ (p : ℕ) (h : p < s.len) (y : s.has p ≡ true) where
-    least_is : ((j : ℕ) → j < p → s.has j ≡ false) → least s ≡ At p
+    least_is : ((j : ℕ) → j < p → s.has j ≡ false) → least s ≡ Some p
     least_is zs =
-        ap (λ (x : ℕ). cond (ltb x s.len) (At x) Nothing) (below_at s.len s.has p h y zs)
-        ∙ ap (λ (t : Bool). cond t (At p) Nothing) (lt-ltb p s.len h)
+        ap (λ (x : ℕ). cond (ltb x s.len) (Some x) None) (below_at s.len s.has p h y zs)
+        ∙ ap (λ (t : Bool). cond t (Some p) None) (lt-ltb p s.len h)
 
-    greatest_is : ((j : ℕ) → p < j → j < s.len → s.has j ≡ false) → greatest s ≡ At p
+    greatest_is : ((j : ℕ) → p < j → j < s.len → s.has j ≡ false) → greatest s ≡ Some p
     greatest_is zs =
         let z = above_at s.len s.has p h y zs in
         let e : s.len - suc (zeros_above s.len s.has) ≡ p = omega (arith, z) in
-        ap (λ (t : Bool). cond t (At (s.len - suc (zeros_above s.len s.has))) Nothing)
+        ap (λ (t : Bool). cond t (Some (s.len - suc (zeros_above s.len s.has))) None)
         (lt-ltb (zeros_above s.len s.has) s.len (omega (arith, z)))
-        ∙ ap At e
+        ∙ ap Some e
 
 -- ---- of the words of a set
 
@@ -66,16 +66,16 @@ module _ (set : FixedBitSet) (ws : List ℕ) (v : Valid set ws) where
       go (inl l) = l
       go (inr g) = absurd (false≢true (sym (read_above ws set p g) ∙ y))
 
-  pub least-none : ((k : ℕ) → k < words_of set.length → get_or ws k 0 ≡ 0) → least (read ws set) ≡ Nothing
+  pub least-none : ((k : ℕ) → k < words_of set.length → get_or ws k 0 ≡ 0) → least (read ws set) ≡ None
   unfolding read
   least-none zs = none-least (read ws set) (λ p h. none_in_word p h (zs (p / 64) (word_of_lem set.length p h)))
 
-  pub greatest-none : ((k : ℕ) → k < words_of set.length → get_or ws k 0 ≡ 0) → greatest (read ws set) ≡ Nothing
+  pub greatest-none : ((k : ℕ) → k < words_of set.length → get_or ws k 0 ≡ 0) → greatest (read ws set) ≡ None
   unfolding read
   greatest-none zs = none-greatest (read ws set) (λ p h. none_in_word p h (zs (p / 64) (word_of_lem set.length p h)))
 
   module _ (k : ℕ) (h : k < words_of set.length) (fit : get_or ws k 0 < 2 ^ 64) (n : get_or ws k 0 ≡ 0 → ⊥) where
-    pub least_at : ((i : ℕ) → i < k → get_or ws i 0 ≡ 0) → least (read ws set) ≡ At (k * 64 + zeros_below 64 (digit (get_or ws k 0)))
+    pub least_at : ((i : ℕ) → i < k → get_or ws i 0 ≡ 0) → least (read ws set) ≡ Some (k * 64 + zeros_below 64 (digit (get_or ws k 0)))
     unfolding read
     least_at zs = least_is (read ws set) (k * 64 + t) (member_below (k * 64 + t) yes_here) yes_here (λ p l. go p l (lt-or-le (p / 64) k))
       where
@@ -97,7 +97,7 @@ module _ (set : FixedBitSet) (ws : List ℕ) (v : Valid set ws) where
             ∙ below_no 64 (digit (get_or ws k 0)) j (omega arith)
 
     pub greatest_at : ((i : ℕ) → k < i → i < words_of set.length → get_or ws i 0 ≡ 0)
-        → greatest (read ws set) ≡ At (k * 64 + (63 - zeros_above 64 (digit (get_or ws k 0))))
+        → greatest (read ws set) ≡ Some (k * 64 + (63 - zeros_above 64 (digit (get_or ws k 0))))
     unfolding read
     greatest_at zs = greatest_is (read ws set) (k * 64 + t) (member_below (k * 64 + t) yes_here) yes_here (λ p a b. go p a b (lt-or-le k (p / 64)))
       where

@@ -2,7 +2,7 @@ ghost use Rattle.std.specs.Prelude.{not, ◌≡◌, ℕ, ◌-◌, ◌≤◌, eqb
 ghost use Rattle.word_bits.specs.Counts.{zeros_above};
 ghost use Rattle.tests.specs.Rules.{minimum_rule, maximum_rule};
 
-use sets::{FixedBitSet, Found, Position, blocks_of, check};
+use sets::{FixedBitSet, Found, blocks_of, check};
 use tests::first_other;
 use word_bits::{leading_zeros, trailing_zeros};
 
@@ -31,7 +31,7 @@ pub fn minimum(set: FixedBitSet, words: &[u64]) -> Found
     if number != 0 {
         return Found {
             number,
-            at: Position::Nothing,
+            at: None,
         };
     }
     let blocks = blocks_of(set.length);
@@ -39,12 +39,12 @@ pub fn minimum(set: FixedBitSet, words: &[u64]) -> Found
     if blocks <= k {
         return Found {
             number: 0,
-            at: Position::Nothing,
+            at: None,
         };
     }
     Found {
         number: 0,
-        at: Position::At(k * 64 + trailing_zeros(words[k])),
+        at: Some(k * 64 + trailing_zeros(words[k])),
     }
 }
 
@@ -56,19 +56,19 @@ pub fn maximum(set: FixedBitSet, words: &[u64]) -> Found
     if number != 0 {
         return Found {
             number,
-            at: Position::Nothing,
+            at: None,
         };
     }
     let above = above_last(words, blocks_of(set.length));
     if above == 0 {
         return Found {
             number: 0,
-            at: Position::Nothing,
+            at: None,
         };
     }
     let zeros = leading_zeros(words[above - 1]);
     Found {
         number: 0,
-        at: Position::At(above * 64 - 1 - zeros),
+        at: Some(above * 64 - 1 - zeros),
     }
 }

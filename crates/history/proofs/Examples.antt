@@ -7,7 +7,7 @@ use Rattle.sets.specs.Members.{words_of, changed}
 use Rattle.sets.specs.Outcomes.{given}
 use Rattle.sets.specs.Questions.{position_question, positions_question, new_length_question, room_question, range_question}
 use Rattle.edits.specs.Edits.{grown, is_in}
-use Rattle.sets.specs.declared.answers.Position.TheVariants.{At, Nothing}
+use Rattle.std.specs.Prelude.{Some, None}
 use Rattle.two_set_counts.specs.Lists.{positions}
 use Rattle.parts.specs.Steps.{front}
 use Rattle.parts.specs.declared.records.End.TheVariants.{Front}
@@ -29,6 +29,6 @@ union : walk_list Union made.a made.b ≡ (1 ∷ 70 ∷ 0 ∷ [])
 unfolding covers range_question words_of changed given position_question positions_question is_in listed new_length_question room_question grown positions leaves decode_all history made
 union = refl
 
-symmetric_difference : answers SymmetricDifference made.a made.b (Front ∷ Front ∷ Front ∷ []) ≡ (At 70 ∷ At 0 ∷ Nothing ∷ [])
+symmetric_difference : answers SymmetricDifference made.a made.b (Front ∷ Front ∷ Front ∷ []) ≡ (Some 70 ∷ Some 0 ∷ None ∷ [])
 unfolding zeros_below covers range_question words_of changed given position_question positions_question is_in listed new_length_question room_question grown front leaves decode_all history answers_from made
 symmetric_difference = refl

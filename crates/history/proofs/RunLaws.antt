@@ -14,8 +14,8 @@ use Rattle.sets.proofs.ReadLaws.{write_valid}
 use Rattle.sets.proofs.WordLaws.{words_mono}
 use Rattle.sets.proofs.WriteLaws.{read-write, write-write, length-write}
 use Rattle.sets.specs.Rules.{with_capacity_rule}
-use Rattle.sets.specs.declared.answers.Position.{Position}
-use Rattle.sets.specs.declared.answers.Position.TheVariants.{At, Nothing}
+use Rattle.std.specs.Prelude.{Option}
+use Rattle.std.specs.Prelude.{Some, None}
 use Rattle.calls.specs.Encoding.{decode_all}
 use Rattle.calls.specs.History.{fresh_sets}
 use Rattle.calls.specs.Rules.{ReplayOutcome, replay_rule, stored}
@@ -40,12 +40,12 @@ both_yes s o ws vs h k =
     sym (first-yes (valid_yes _ _ (write_valid ws s h.clipped h.small h.enough)) (sym (valid_yes _ _ (write_valid vs o k.clipped k.small k.enough))))
 
 -- an answer is read back from its word
-read_back : (xs : List Position) → ((k p : ℕ) → get_or xs k Nothing ≡ At p → p < 65536) → map answer_of (map answer_word xs) ≡ xs
+read_back : (xs : List (Option ℕ)) → ((k p : ℕ) → get_or xs k None ≡ Some p → p < 65536) → map answer_of (map answer_word xs) ≡ xs
 read_back [] h = refl
-read_back (At p ∷ xs) h =
+read_back (Some p ∷ xs) h =
     let b = h 0 p refl in
-    ap₂ {C = List Position} (λ q qs. q ∷ qs) (rw (ne_eqb p (2 ^ 64 - 1) (λ e. omega arith)) refl) (read_back xs (λ k. h (suc k)))
-read_back (Nothing ∷ xs) h = ap {B = List Position} (λ qs. Nothing ∷ qs) (read_back xs (λ k. h (suc k)))
+    ap₂ {C = List (Option ℕ)} (λ q qs. q ∷ qs) (rw (ne_eqb p (2 ^ 64 - 1) (λ e. omega arith)) refl) (read_back xs (λ k. h (suc k)))
+read_back (None ∷ xs) h = ap {B = List (Option ℕ)} (λ qs. None ∷ qs) (read_back xs (λ k. h (suc k)))
 
 module _ (i : Input) (go : questions_of i ≡ 0) where
   abbrev ws : List ℕ
@@ -111,7 +111,7 @@ module _ (i : Input) (go : questions_of i ≡ 0) where
       ) refl
 
   -- what is written is read back as the answers, in the words of the steps
-  abbrev given-answers : List Position
+  abbrev given-answers : List (Option ℕ)
   given-answers = answers i.walk (state_of i).a (state_of i).b (map end_of i.steps)
 
   demand : Walked i.walk (state_of i).a (state_of i).b (map end_of i.steps) given-answers (length (walk_list i.walk (state_of i).a (state_of i).b))

@@ -13,8 +13,8 @@ use Rattle.sets.specs.declared.fixed_bit_set.FixedBitSet.{FixedBitSet}
 use Rattle.sets.proofs.RangeQuestionLaws.{part_yes, part_within}
 use Rattle.two_set_counts.specs.Lists.{zeroes_list}
 use Rattle.sets.specs.declared.answers.Part.{Part}
-use Rattle.sets.specs.declared.answers.Position.{Position}
-use Rattle.sets.specs.declared.answers.Position.TheVariants.{At, Nothing}
+use Rattle.std.specs.Prelude.{Option}
+use Rattle.std.specs.Prelude.{Some, None}
 use Rattle.parts.specs.Steps.{front}
 use Rattle.parts.specs.declared.records.End.{End}
 use Rattle.parts.specs.declared.records.End.TheVariants.{Front, Back}
@@ -28,21 +28,21 @@ use Rattle.next_many.specs.Mixes.{Taking, single, many, fronts_of, backs_of, ask
 use Rattle.next_many.proofs.ManyLaws.{pairs_are}
 
 module _ (whole rest : List ℕ) where
-  taken_more : (n : ℕ) (x : Position) → Taken x Front whole rest → position_of x ++ take n rest ≡ take (suc n) whole
-  taken_more n (At p) t = ap (take (suc n)) (sym t)
-  taken_more zero Nothing t = ap (take 1) (sym t.0)
-  taken_more (suc n) Nothing t = ap (take (suc n)) t.1 ∙ ap (take (suc (suc n))) (sym t.0)
+  taken_more : (n : ℕ) (x : Option ℕ) → Taken x Front whole rest → position_of x ++ take n rest ≡ take (suc n) whole
+  taken_more n (Some p) t = ap (take (suc n)) (sym t)
+  taken_more zero None t = ap (take 1) (sym t.0)
+  taken_more (suc n) None t = ap (take (suc n)) t.1 ∙ ap (take (suc (suc n))) (sym t.0)
 
-  dropped_more : (n : ℕ) (x : Position) → Taken x Front whole rest → drop n rest ≡ drop (suc n) whole
-  dropped_more n (At p) t = ap (drop (suc n)) (sym t)
-  dropped_more zero Nothing t = t.1 ∙ ap (drop 1) (sym t.0)
-  dropped_more (suc n) Nothing t = ap (drop (suc n)) t.1 ∙ ap (drop (suc (suc n))) (sym t.0)
+  dropped_more : (n : ℕ) (x : Option ℕ) → Taken x Front whole rest → drop n rest ≡ drop (suc n) whole
+  dropped_more n (Some p) t = ap (drop (suc n)) (sym t)
+  dropped_more zero None t = t.1 ∙ ap (drop 1) (sym t.0)
+  dropped_more (suc n) None t = ap (drop (suc n)) t.1 ∙ ap (drop (suc (suc n))) (sym t.0)
 
   -- one step of those that ask for m more
-  one-step : (x : Position) (end : End) → Taken x end whole rest → (m : ℕ) → length (position_of x) + min m (length rest) ≡ min (suc m) (length whole)
-  one-step (At p) Front t m = omega (arith, ap length t)
-  one-step (At p) Back t m = omega (arith, ap length t, length-append rest (p ∷ []))
-  one-step Nothing end t m = omega (arith, ap length t.0, ap length t.1)
+  one-step : (x : Option ℕ) (end : End) → Taken x end whole rest → (m : ℕ) → length (position_of x) + min m (length rest) ≡ min (suc m) (length whole)
+  one-step (Some p) Front t m = omega (arith, ap length t)
+  one-step (Some p) Back t m = omega (arith, ap length t, length-append rest (p ∷ []))
+  one-step None end t m = omega (arith, ap length t.0, ap length t.1)
 
 -- ---- one part
 

@@ -8,7 +8,7 @@ use native.Mathlib.Omega.{arith}
 use lib.ListN.{length}
 use Rattle.sets.specs.Outcomes.{position_of}
 use Rattle.sets.specs.declared.answers.Part.{Part}
-use Rattle.sets.specs.declared.answers.Position.TheVariants.{At, Nothing}
+use Rattle.std.specs.Prelude.{Some, None}
 use Rattle.parts.specs.Steps.{front, back, step}
 use Rattle.parts.specs.declared.records.End.{End}
 use Rattle.parts.specs.declared.records.End.TheVariants.{Front, Back}
@@ -23,7 +23,7 @@ after has n s = record { positions = position_of s.at ++ (front_steps n has s.pa
 
 module _ (has : ℕ → Bool) (part : Part) where
   -- none changes no record, so that none comes again
-  none_again : front has part ≡ record { at = Nothing; part = part } → (n : ℕ) → front_steps n has part ≡ record { positions = []; part = part }
+  none_again : front has part ≡ record { at = None; part = part } → (n : ℕ) → front_steps n has part ≡ record { positions = []; part = part }
   unfolding front_steps
   none_again e zero = refl
   none_again e (suc n) = ap (after has n) e ∙ none_again e n
@@ -82,15 +82,15 @@ module _ (f g : ℕ → Bool) where
       (λ p e. in_first p (pairs_are n (record { low = p + 1; high = one.high }) two)) (λ e. in_second e (pairs_are n one (front g two).part)) refl
     where
       in_first : (p : ℕ) → front_pairs n f g (record { low = p + 1; high = one.high }) two ≡ joined (front_steps n f (record { low = p + 1; high = one.high })) (rest n (front_steps n f (record { low = p + 1; high = one.high })) two)
-          → after_pair n (record { at = At p; one = record { low = p + 1; high = one.high }; two = two })
-          ≡ joined (after f n (record { at = At p; part = record { low = p + 1; high = one.high } })) (rest (suc n) (after f n (record { at = At p; part = record { low = p + 1; high = one.high } })) two)
+          → after_pair n (record { at = Some p; one = record { low = p + 1; high = one.high }; two = two })
+          ≡ joined (after f n (record { at = Some p; part = record { low = p + 1; high = one.high } })) (rest (suc n) (after f n (record { at = Some p; part = record { low = p + 1; high = one.high } })) two)
       in_first p ih =
           let m = front_steps n f (record { low = p + 1; high = one.high }) in
           let e : n - length m.positions ≡ suc n - suc (length m.positions) = omega arith in
           ap (λ (x : ManyPair). record { positions = p ∷ x.positions; one = x.one; two = x.two }) ih
           ∙ ap (λ (i : ℕ). joined (record { positions = p ∷ m.positions; part = m.part }) (front_steps i g two)) e
 
-      in_second : front f one ≡ record { at = Nothing; part = one } → front_pairs n f g one (front g two).part ≡ joined (front_steps n f one) (rest n (front_steps n f one) (front g two).part)
+      in_second : front f one ≡ record { at = None; part = one } → front_pairs n f g one (front g two).part ≡ joined (front_steps n f one) (rest n (front_steps n f one) (front g two).part)
           → after_pair n (record { at = (front g two).at; one = one; two = (front g two).part }) ≡ joined (front_steps n f one) (rest (suc n) (front_steps n f one) two)
       in_second e ih =
           let none = none_again f one e n in
@@ -117,6 +117,6 @@ alone two s = record { at = s.at; one = s.part; two = two }
 pub step_alone : (end : End) (f : ℕ → Bool) (one two : Part) → pair_step end f (λ p. false) one two ≡ alone two (step end f one)
 step_alone Front f one two =
     ap (λ (t : Step). or_else (front f one).at (alone two (front f one)) (record { at = t.at; one = one; two = t.part })) (front-none (λ p. false) two (λ p a b. refl))
-    ∙ front_cases (λ s. or_else s.at (alone two s) (record { at = Nothing; one = one; two = two }) ≡ alone two s) f one (λ p. refl) refl
+    ∙ front_cases (λ s. or_else s.at (alone two s) (record { at = None; one = one; two = two }) ≡ alone two s) f one (λ p. refl) refl
 step_alone Back f one two =
     ap (λ (t : Step). or_else t.at (record { at = t.at; one = one; two = t.part }) (alone two (back f one))) (back_none (λ p. false) two (λ p a b. refl))

@@ -6,7 +6,7 @@ use Prim.Native.Nat.{ℕ, ◌+◌, ◌*◌}
 use lib.Dec.{eqb}
 use Rattle.word_bits.specs.Counts.{some, count, zeros_below}
 use Rattle.sets.specs.Members.{Members}
-use Rattle.sets.specs.declared.answers.Position.TheVariants.{At, Nothing}
+use Rattle.std.specs.Prelude.{Some, None}
 use Rattle.parts.specs.Steps.{front}
 use Rattle.two_set_counts.specs.Lists.{positions}
 use Rattle.byte_texts.specs.Ascii.{ascii}
@@ -45,11 +45,11 @@ unfolding table named_below is_named
 not_named = refl
 
 -- 3 has no pair, and nothing from 4 on
-unpaired_3 : unpaired_from table olds 0 ≡ At 3
+unpaired_3 : unpaired_from table olds 0 ≡ Some 3
 unfolding olds table is_unpaired is_named front zeros_below
 unpaired_3 = refl
 
-unpaired_none : unpaired_from table olds 4 ≡ Nothing
+unpaired_none : unpaired_from table olds 4 ≡ None
 unfolding olds table is_unpaired is_named front zeros_below
 unpaired_none = refl
 

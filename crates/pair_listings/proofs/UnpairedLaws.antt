@@ -11,7 +11,7 @@ use Rattle.word_bits.specs.Counts.{count}
 use Rattle.word_bits.specs.Digits.{one}
 use Rattle.word_bits.proofs.Order.{lt-or-le}
 use Rattle.sets.specs.Members.{read}
-use Rattle.sets.specs.declared.answers.Position.TheVariants.{At, Nothing}
+use Rattle.std.specs.Prelude.{Some, None}
 use Rattle.parts.specs.declared.records.Step.{Step}
 use Rattle.parts.proofs.PartLaws.{front_at, front-none}
 use Rattle.pair_listings.specs.Tables.{offsets_of, is_named, is_unpaired, unpaired_from, unpaired_count}
@@ -38,11 +38,11 @@ module _ (to : ℕ → ℕ) (ws : List ℕ) where
           go q a b (inl l) = h.none q a l
           go q a b (inr g) = let same : q ≡ p = omega arith in ap f same ∙ e
 
-      pub searching_found : p < 65536 → f p ≡ true → At p ≡ unpaired_from to (offsets_of ws) from
+      pub searching_found : p < 65536 → f p ≡ true → Some p ≡ unpaired_from to (offsets_of ws) from
       unfolding read
       searching_found l e = sym (ap (λ (s : Step). s.at) (front_at f (record { low = from; high = 65536 }) p h.order l e h.none))
 
-      pub searching_over : 65536 ≤ p → Nothing ≡ unpaired_from to (offsets_of ws) from
+      pub searching_over : 65536 ≤ p → None ≡ unpaired_from to (offsets_of ws) from
       unfolding read
       searching_over g = sym (ap (λ (s : Step). s.at) (front-none f (record { low = from; high = 65536 }) (λ q a b. h.none q a (omega arith))))
 

@@ -4,7 +4,7 @@ use Rattle.word_bits.specs.Counts.{some, count}
 use Rattle.sets.specs.Members.{Members, read, set_of, empty}
 use Rattle.sets.specs.Outcomes.{Outcome, edited}
 use Rattle.sets.specs.Questions.{first, questions, new_questions}
-use Rattle.sets.specs.declared.answers.Position.{Position}
+use Rattle.std.specs.Prelude.{Option}
 use Rattle.sets.specs.declared.fixed_bit_set.FixedBitSet.{FixedBitSet}
 use Rattle.parts.specs.Steps.{front}
 
@@ -62,7 +62,7 @@ unfoldable pub is_unpaired : (ℕ → ℕ) → Members → ℕ → Bool
 is_unpaired to s p = s.has p && not (is_named to p)
 
 -- the first of them from a place on, or none, and how many there are
-abbrev pub unpaired_from : (ℕ → ℕ) → Members → ℕ → Position
+abbrev pub unpaired_from : (ℕ → ℕ) → Members → ℕ → Option ℕ
 unpaired_from to s from = (front (is_unpaired to s) (record { low = from; high = s.len })).at
 
 abbrev pub unpaired_count : (ℕ → ℕ) → Members → ℕ

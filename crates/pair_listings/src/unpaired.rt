@@ -2,7 +2,7 @@ ghost use Rattle.std.specs.Prelude.{◌≡◌};
 ghost use Rattle.pair_listings.specs.Tables.{offsets_of, entry_of, is_unpaired, unpaired_from, unpaired_count};
 
 use blocks::block;
-use sets::{FixedBitSet, Position, member};
+use sets::{FixedBitSet, member};
 
 // Whether an offset is a member that no pair names.
 fn is_unpaired(words: &[u64], to: &[u64], p: usize) -> bool
@@ -15,17 +15,17 @@ fn is_unpaired(words: &[u64], to: &[u64], p: usize) -> bool
 }
 
 // The first member from a place on that no pair names, or none.
-pub fn first_unpaired(words: &[u64], to: &[u64], from: usize) -> Position
+pub fn first_unpaired(words: &[u64], to: &[u64], from: usize) -> Option<usize>
     ensures { result ≡ unpaired_from (entry_of to.now) (offsets_of words.now) from }
 {
     let mut p = from;
     while p < 65536 {
         if is_unpaired(words, to, p) {
-            return Position::At(p);
+            return Some(p);
         }
         p += 1;
     }
-    Position::Nothing
+    None
 }
 
 // How many members no pair names.

@@ -10,7 +10,7 @@ use lib.Dec.{ltb}
 use Rattle.word_bits.specs.Counts.{zeros_below, zeros_above}
 use Rattle.word_bits.proofs.Ends.{below_at, below_no, below_none, below_yes, above_at, above_no, above_none, above_yes}
 use Rattle.word_bits.proofs.Order.{lt-or-le}
-use Rattle.sets.specs.declared.answers.Position.TheVariants.{At, Nothing}
+use Rattle.std.specs.Prelude.{Some, None}
 use Rattle.parts.specs.Helpers.{top_of, next_from, bottom_of, prev_from}
 use Rattle.parts.specs.Steps.{taken, ahead, behind, front, back, step}
 use Rattle.parts.specs.declared.records.End.{End}
@@ -21,14 +21,14 @@ use Rattle.sets.specs.declared.answers.Part.{Part}
 -- ---- a step by its position
 
 module _ (has : ℕ → Bool) (part : Part) where
-  pub front-none : ((p : ℕ) → part.low ≤ p → p < part.high → has p ≡ false) → front has part ≡ record { at = Nothing; part = part }
+  pub front-none : ((p : ℕ) → part.low ≤ p → p < part.high → has p ≡ false) → front has part ≡ record { at = None; part = part }
   unfolding front
   front-none zs =
       let z = below_none (part.high - part.low) (λ j. has (part.low + j)) (λ j l. zs (part.low + j) (omega arith) (omega arith)) in
       ap (λ (t : Bool). taken t (part.low + ahead has part) (record { low = part.low + ahead has part + 1; high = part.high }) part)
       (le-ltb (ahead has part) (part.high - part.low) (omega (arith, z)))
 
-  pub back_none : ((p : ℕ) → part.low ≤ p → p < part.high → has p ≡ false) → back has part ≡ record { at = Nothing; part = part }
+  pub back_none : ((p : ℕ) → part.low ≤ p → p < part.high → has p ≡ false) → back has part ≡ record { at = None; part = part }
   unfolding back
   back_none zs =
       let z = above_none (part.high - part.low) (λ j. has (part.low + j)) (λ j l. zs (part.low + j) (omega arith) (omega arith)) in
@@ -39,23 +39,23 @@ module _ (has : ℕ → Bool) (part : Part) where
     at_low : has (part.low + (p - part.low)) ≡ true
     at_low = ap has (add-sub_of_le a) ∙ y
 
-    pub front_at : ((q : ℕ) → part.low ≤ q → q < p → has q ≡ false) → front has part ≡ record { at = At p; part = record { low = p + 1; high = part.high } }
+    pub front_at : ((q : ℕ) → part.low ≤ q → q < p → has q ≡ false) → front has part ≡ record { at = Some p; part = record { low = p + 1; high = part.high } }
     unfolding front
     front_at zs =
         let z = below_at (part.high - part.low) (λ j. has (part.low + j)) (p - part.low) (omega arith) at_low (λ j l. zs (part.low + j) (omega arith) (omega arith)) in
         let e : part.low + ahead has part ≡ p = omega (arith, z) in
         ap (λ (t : Bool). taken t (part.low + ahead has part) (record { low = part.low + ahead has part + 1; high = part.high }) part)
         (lt-ltb (ahead has part) (part.high - part.low) (omega (arith, z)))
-        ∙ ap (λ (x : ℕ). record { at = At x; part = record { low = x + 1; high = part.high } }) e
+        ∙ ap (λ (x : ℕ). record { at = Some x; part = record { low = x + 1; high = part.high } }) e
 
-    pub back_at : ((q : ℕ) → p < q → q < part.high → has q ≡ false) → back has part ≡ record { at = At p; part = record { low = part.low; high = p } }
+    pub back_at : ((q : ℕ) → p < q → q < part.high → has q ≡ false) → back has part ≡ record { at = Some p; part = record { low = part.low; high = p } }
     unfolding back
     back_at zs =
         let z = above_at (part.high - part.low) (λ j. has (part.low + j)) (p - part.low) (omega arith) at_low (λ j c d. zs (part.low + j) (omega arith) (omega arith)) in
         let e : part.high - suc (behind has part) ≡ p = omega (arith, z) in
         ap (λ (t : Bool). taken t (part.high - suc (behind has part)) (record { low = part.low; high = part.high - suc (behind has part) }) part)
         (lt-ltb (behind has part) (part.high - part.low) (omega (arith, z)))
-        ∙ ap (λ (x : ℕ). record { at = At x; part = record { low = part.low; high = x } }) e
+        ∙ ap (λ (x : ℕ). record { at = Some x; part = record { low = part.low; high = x } }) e
 
 -- ---- a step by what a search found: a position, or one from high up for none; one above a position, or a number up to low for none
 
@@ -81,19 +81,19 @@ module _ (has : ℕ → Bool) (part : Part) (r : ℕ) where
     unfolding next_from
     next_lacks g = e ∙ ap (λ (t : Bool). cond t (part.low + steps_up) (max part.low part.high)) (le-ltb steps_up (top - part.low) g)
 
-    pub front-found : r < part.high → record { at = At r; part = record { low = r + 1; high = part.high } } ≡ front has part
+    pub front-found : r < part.high → record { at = Some r; part = record { low = r + 1; high = part.high } } ≡ front has part
     front-found l = go (lt-or-le steps_up (top - part.low))
       where
-        go : (steps_up < top - part.low) ⊎ (top - part.low ≤ steps_up) → record { at = At r; part = record { low = r + 1; high = part.high } } ≡ front has part
+        go : (steps_up < top - part.low) ⊎ (top - part.low ≤ steps_up) → record { at = Some r; part = record { low = r + 1; high = part.high } } ≡ front has part
         go (inl i) =
             let at = next_found i in
             sym (front_at has part r (omega arith) l (ap has at ∙ below_yes (top - part.low) up i) (λ q a b. passed_up q a (omega arith)))
         go (inr g) = absurd (omega (arith, next_lacks g))
 
-    pub front_lacks : part.high ≤ r → record { at = Nothing; part = part } ≡ front has part
+    pub front_lacks : part.high ≤ r → record { at = None; part = part } ≡ front has part
     front_lacks h = go (lt-or-le steps_up (top - part.low))
       where
-        go : (steps_up < top - part.low) ⊎ (top - part.low ≤ steps_up) → record { at = Nothing; part = part } ≡ front has part
+        go : (steps_up < top - part.low) ⊎ (top - part.low ≤ steps_up) → record { at = None; part = part } ≡ front has part
         go (inl i) = sym (front-none has part (λ q a b. passed_up q a (omega (arith, next_found i))))
         go (inr g) = sym (front-none has part (λ q a b. passed_up q a (omega arith)))
 
@@ -125,11 +125,11 @@ module _ (has : ℕ → Bool) (part : Part) (r : ℕ) where
     unfolding prev_from
     prev_lacks h g = e ∙ ap₂ picked (lt-ltb part.low part.high h) (le-ltb steps_down (part.high - bottom) g)
 
-    pub back_found : part.low < r → record { at = At (r - 1); part = record { low = part.low; high = r - 1 } } ≡ back has part
+    pub back_found : part.low < r → record { at = Some (r - 1); part = record { low = part.low; high = r - 1 } } ≡ back has part
     back_found l = go (lt-or-le part.low part.high) (lt-or-le steps_down (part.high - bottom))
       where
         go : (part.low < part.high) ⊎ (part.high ≤ part.low) → (steps_down < part.high - bottom) ⊎ (part.high - bottom ≤ steps_down)
-            → record { at = At (r - 1); part = record { low = part.low; high = r - 1 } } ≡ back has part
+            → record { at = Some (r - 1); part = record { low = part.low; high = r - 1 } } ≡ back has part
         go (inl h) (inl i) =
             let at = prev_found h i in
             let p : bottom + (part.high - bottom - suc steps_down) ≡ r - 1 = omega (arith, at) in
@@ -137,17 +137,17 @@ module _ (has : ℕ → Bool) (part : Part) (r : ℕ) where
         go (inl h) (inr g) = absurd (omega (arith, prev_lacks h g))
         go (inr g) w = absurd (omega (arith, prev_empty g))
 
-    pub back_lacks : r ≤ part.low → record { at = Nothing; part = part } ≡ back has part
+    pub back_lacks : r ≤ part.low → record { at = None; part = part } ≡ back has part
     back_lacks l = go (lt-or-le part.low part.high) (lt-or-le steps_down (part.high - bottom))
       where
-        go : (part.low < part.high) ⊎ (part.high ≤ part.low) → (steps_down < part.high - bottom) ⊎ (part.high - bottom ≤ steps_down) → record { at = Nothing; part = part } ≡ back has part
+        go : (part.low < part.high) ⊎ (part.high ≤ part.low) → (steps_down < part.high - bottom) ⊎ (part.high - bottom ≤ steps_down) → record { at = None; part = part } ≡ back has part
         go (inl h) (inl i) = sym (back_none has part (λ q a b. passed_down q (omega arith) b (omega (arith, prev_found h i))))
         go (inl h) (inr g) = sym (back_none has part (λ q a b. passed_down q (omega arith) b (omega arith)))
         go (inr g) w = sym (back_none has part (λ q a b. absurd (omega arith)))
 
 -- a front step gives a position, or none and the record as it was
-pub front_cases : (P : Step → Type 0) (has : ℕ → Bool) (part : Part) → ((p : ℕ) → P (record { at = At p; part = record { low = p + 1; high = part.high } }))
-    → P (record { at = Nothing; part = part }) → P (front has part)
+pub front_cases : (P : Step → Type 0) (has : ℕ → Bool) (part : Part) → ((p : ℕ) → P (record { at = Some p; part = record { low = p + 1; high = part.high } }))
+    → P (record { at = None; part = part }) → P (front has part)
 unfolding front
 front_cases P has part given lacks = go (ltb (ahead has part) (part.high - part.low))
   where

@@ -1,4 +1,4 @@
-use sets::{Part, Position};
+use sets::Part;
 
 // Which positions of a set a part is, given another set.
 #[derive(Clone, Copy)]
@@ -19,6 +19,6 @@ pub enum End {
 // A position or none, and what is left of the part after it.
 #[derive(Clone, Copy)]
 pub struct Step {
-    pub at: Position,
+    pub at: Option<usize>,
     pub part: Part,
 }

@@ -5,7 +5,7 @@ ghost use Rattle.parts.specs.Steps.{front, back, step};
 
 use crate::records::{End, Selection, Step};
 use crate::search::{back_selected, front_selected};
-use sets::{Part, Position};
+use sets::Part;
 
 fn front_step(words: &[u64], other: &[u64], part: Part, selection: Selection) -> Step
     ensures { result ≡ front (λ (p : ℕ). selected selection (bit_of words.now p) (bit_of other.now p)) part }
@@ -15,12 +15,12 @@ fn front_step(words: &[u64], other: &[u64], part: Part, selection: Selection) ->
     let p = front_selected(words, other, selection, low, high);
     if high <= p {
         return Step {
-            at: Position::Nothing,
+            at: None,
             part,
         };
     }
     Step {
-        at: Position::At(p),
+        at: Some(p),
         part: Part { low: p + 1, high },
     }
 }
@@ -33,12 +33,12 @@ fn back_step(words: &[u64], other: &[u64], part: Part, selection: Selection) -> 
     let above = back_selected(words, other, selection, low, high);
     if above <= low {
         return Step {
-            at: Position::Nothing,
+            at: None,
             part,
         };
     }
     Step {
-        at: Position::At(above - 1),
+        at: Some(above - 1),
         part: Part {
             low,
             high: above - 1,

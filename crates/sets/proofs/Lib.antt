@@ -7,3 +7,5 @@ pub mod OutcomeLaws
 pub mod ReadLaws
 mod StrayLaws
 pub mod ZeroLaws
+pub mod RefusalLaws
+pub mod OwnWordsLaws

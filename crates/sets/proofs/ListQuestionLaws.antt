@@ -1,10 +1,15 @@
 -- Question 4 of a list of positions. Assumes nothing.
 use mathlib.Core.Path.{◌≡◌, refl, sym, ap, ◌∙◌}
+use mathlib.Core.Bool.{Bool, cond}
+use mathlib.Core.Logic.{◌⊎◌, inl, inr}
 use mathlib.Core.List.{List, [], ◌∷◌}
-use Prim.Native.Nat.{ℕ, suc, ◌+◌, ◌-◌, ◌≤◌, ◌<◌}
+use Prim.Native.Nat.{ℕ, ◌+◌, ◌≤◌, ◌<◌}
 use native.Mathlib.Omega.{arith}
-use lib.ListN.{length, get_or, drop}
-use lib.Seq.{drop-cons, drop-length}
+use borrow.Author.Tests.{le-leb, lt-leb}
+use lib.Dec.{leb}
+use Rattle.std.specs.Prelude.{count_by}
+use Rattle.std.proofs.lemmas.List.Sums.{sum_by-cons}
+use Rattle.word_bits.proofs.Order.{lt-or-le}
 use Rattle.sets.specs.Questions.{position_question, positions_question}
 use Rattle.sets.specs.declared.fixed_bit_set.FixedBitSet.{FixedBitSet}
 use Rattle.sets.proofs.QuestionLaws.{first_no, first-yes, first-both, position_yes, position_no, position_below}
@@ -16,10 +21,6 @@ module _ (set : FixedBitSet) where
       let q = first-both (position_question set p) (positions_question set ps) e in
       (position_below set p q.0, q.1)
 
-  none_out : positions_question set [] ≡ 0
-  unfolding positions_question
-  none_out = refl
-
   first_in : (p : ℕ) (ps : List ℕ) → p < set.length → positions_question set (p ∷ ps) ≡ positions_question set ps
   unfolding positions_question
   first_in p ps h = sym (first-yes (position_yes set p h) refl)
@@ -28,46 +29,36 @@ module _ (set : FixedBitSet) where
   unfolding positions_question
   first_out p ps h = sym (first_no (positions_question set ps) (sym (position_no set p h)) (λ z. omega arith))
 
--- so many of the positions from k up are out
-pub record Asked (set : FixedBitSet) (ps : List ℕ) (out k : ℕ) : Type 0 where
-  pub within : out + k ≤ length ps
-  pub none : out ≡ 0 → positions_question set (drop k ps) ≡ 0
-  pub some : 0 < out → positions_question set (drop k ps) ≡ 4
+-- as many as are out are counted
+module _ (set : FixedBitSet) where
+  out : ℕ → Bool
+  out p = leb set.length p
 
-module _ (set : FixedBitSet) (ps : List ℕ) where
-  pub asked_start : Asked set ps 0 (length ps)
-  asked_start = record {
-    within = omega arith;
-    none = λ e. ap (positions_question set) (drop-length ps) ∙ none_out set;
-    some = λ h. absurd (omega arith);
-  }
+  more : (p : ℕ) (ps : List ℕ) → count_by out (p ∷ ps) ≡ cond (out p) 1 0 + count_by out ps
+  more p ps = sum_by-cons (λ q. cond (out q) 1 0) p ps
 
-  module _ (out k : ℕ) (a : Asked set ps out k) (h : 0 < k) where
-    here : drop (k - 1) ps ≡ get_or ps (k - 1) 0 ∷ drop k ps
-    here =
-        let next : suc (k - 1) ≡ k = omega arith in
-        drop-cons ps (k - 1) 0 (omega (arith, a.within)) ∙ ap (λ (n : ℕ). get_or ps (k - 1) 0 ∷ drop n ps) next
+  inside : (p : ℕ) (ps : List ℕ) → p < set.length → count_by out (p ∷ ps) ≡ count_by out ps
+  unfolding out
+  inside p ps h = more p ps ∙ ap (λ (b : Bool). cond b 1 0 + count_by out ps) (lt-leb set.length p h) ∙ omega arith
 
-    pub asked_in : get_or ps (k - 1) 0 < set.length → Asked set ps out (k - 1)
-    asked_in l =
-        let same : positions_question set (drop (k - 1) ps) ≡ positions_question set (drop k ps) =
-        ap (positions_question set) here ∙ first_in set (get_or ps (k - 1) 0) (drop k ps) l in
-        record { within = omega (arith, a.within); none = λ e. same ∙ a.none e; some = λ e. same ∙ a.some e }
+  beyond : (p : ℕ) (ps : List ℕ) → set.length ≤ p → count_by out (p ∷ ps) ≡ 1 + count_by out ps
+  unfolding out
+  beyond p ps h = more p ps ∙ ap (λ (b : Bool). cond b 1 0 + count_by out ps) (le-leb set.length p h)
 
-    pub asked_out_lem : set.length ≤ get_or ps (k - 1) 0 → Asked set ps (out + 1) (k - 1)
-    asked_out_lem l = record {
-      within = omega (arith, a.within);
-      none = λ e. absurd (omega arith);
-      some = λ e. ap (positions_question set) here ∙ first_out set (get_or ps (k - 1) 0) (drop k ps) l;
-    }
+  pub none_out : (ps : List ℕ) → count_by (λ p. leb set.length p) ps ≡ 0 → 0 ≡ positions_question set ps
+  unfolding positions_question out
+  none_out [] e = refl
+  none_out (p ∷ ps) e = go (lt-or-le p set.length) (none_out ps)
+    where
+      go : (p < set.length) ⊎ (set.length ≤ p) → (count_by out ps ≡ 0 → 0 ≡ positions_question set ps) → 0 ≡ positions_question set (p ∷ ps)
+      go (inl h) rest = rest (sym (inside p ps h) ∙ e) ∙ sym (first_in set p ps h)
+      go (inr h) rest = let b = beyond p ps h in absurd (omega (arith, e, b))
 
-  -- all have been asked
-  module _ (out k : ℕ) (a : Asked set ps out k) (e : k ≡ 0) where
-    all : positions_question set ps ≡ positions_question set (drop k ps)
-    all = ap (λ (n : ℕ). positions_question set (drop n ps)) (sym e)
-
-    pub asked-none : out ≡ 0 → 0 ≡ positions_question set ps
-    asked-none z = sym (all ∙ a.none z)
-
-    pub asked-some : (out ≡ 0 → ⊥) → 4 ≡ positions_question set ps
-    asked-some z = sym (all ∙ a.some (omega arith))
+  pub some_out : (ps : List ℕ) → (count_by (λ p. leb set.length p) ps ≡ 0 → ⊥) → 4 ≡ positions_question set ps
+  unfolding positions_question out
+  some_out [] h = absurd (h refl)
+  some_out (p ∷ ps) h = go (lt-or-le p set.length) (some_out ps)
+    where
+      go : (p < set.length) ⊎ (set.length ≤ p) → ((count_by out ps ≡ 0 → ⊥) → 4 ≡ positions_question set ps) → 4 ≡ positions_question set (p ∷ ps)
+      go (inl l) rest = rest (λ e. h (inside p ps l ∙ e)) ∙ sym (first_in set p ps l)
+      go (inr l) rest = sym (first_out set p ps l)

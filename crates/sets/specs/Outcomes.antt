@@ -6,8 +6,8 @@ use Rattle.sets.specs.declared.answers.Edited.{Edited}
 use Rattle.sets.specs.declared.answers.Told.{Told}
 use Rattle.sets.specs.declared.answers.Counted.{Counted}
 use Rattle.sets.specs.declared.answers.Found.{Found}
-use Rattle.sets.specs.declared.answers.Position.{Position}
-use Rattle.sets.specs.declared.answers.Position.TheVariants.{At, Nothing}
+use Rattle.std.specs.Prelude.{Option}
+use Rattle.std.specs.Prelude.{Some, None}
 
 -- a number other than 0 refuses; accepted calls give number 0
 unfoldable pub given : {A : Type 0} → ℕ → (ℕ → A) → A → A
@@ -36,14 +36,14 @@ abbrev pub counted : ℕ → ℕ → Counted
 counted n k = given n (λ m. record { number = m; count = 0 }) (record { number = 0; count = k })
 
 -- an answer that is a position or none, by its cases: p where there is one, else none
-abbrev pub place : Bool → ℕ → Position
-place there p = cond there (At p) Nothing
+abbrev pub place : Bool → ℕ → Option ℕ
+place there p = cond there (Some p) None
 
 -- the positions that such an answer gives: one, or none
-abbrev pub position_of : Position → List ℕ
-position_of (At p) = p ∷ []
-position_of Nothing = []
+abbrev pub position_of : Option ℕ → List ℕ
+position_of (Some p) = p ∷ []
+position_of None = []
 
 -- a call that answers a position; refused, none
-abbrev pub found : ℕ → Position → Found
-found n at = given n (λ m. record { number = m; at = Nothing }) (record { number = 0; at = at })
+abbrev pub found : ℕ → Option ℕ → Found
+found n at = given n (λ m. record { number = m; at = None }) (record { number = 0; at = at })

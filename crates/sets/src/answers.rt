@@ -22,17 +22,10 @@ pub struct Counted {
     pub count: usize,
 }
 
-// A position, or none.
-#[derive(Clone, Copy)]
-pub enum Position {
-    At(usize),
-    Nothing,
-}
-
 #[derive(Clone, Copy)]
 pub struct Found {
     pub number: u64,
-    pub at: Position,
+    pub at: Option<usize>,
 }
 
 // The record of a part of a walk: what is left of it are its positions from low up to high, which is not included.

@@ -2,16 +2,24 @@
 #![tactic(auto)]
 
 mod answers;
+mod checked;
+mod checking;
+mod checks;
+mod conversions;
 mod fixed_bit_set;
 mod membership;
 mod questions;
+mod refusal;
 mod sizes;
 
-pub use answers::{Counted, Edited, Found, Part, Position, Told};
+pub use answers::{Counted, Edited, Found, Part, Told};
+pub use checked::Checked;
+pub use checks::check_new;
 pub use fixed_bit_set::FixedBitSet;
 pub use membership::member;
 pub use questions::{
-    ask_new, ask_part, ask_position, ask_positions, ask_range, check, check_both, check_pair,
-    check_part, check_position, check_range, check_two,
+    ask_new, ask_part, ask_positions, ask_range, check, check_both, check_pair, check_part,
+    check_position, check_range, check_two,
 };
+pub use refusal::Refusal;
 pub use sizes::blocks_of;

@@ -3,7 +3,6 @@ ghost use Rattle.pair_listings.specs.Tables.{entry_of, offsets_of, unpaired_coun
 
 use byte_texts::append_name;
 use pair_listings::{append_unpaired, count_unpaired, first_unpaired};
-use sets::Position;
 use std::io::Write;
 use tool_files::{part, tell_number, write_whole};
 
@@ -36,13 +35,13 @@ fn append_members(
         turns -= 1;
         let found = first_unpaired(words, to, from);
         match found {
-            Position::At(offset) => {
+            Some(offset) => {
                 end = append_member(report, end, old, table, offset, pairs);
                 if offset < 65536 {
                     from = offset + 1;
                 }
             }
-            Position::Nothing => {
+            None => {
                 return end;
             }
         }

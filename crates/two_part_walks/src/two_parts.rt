@@ -5,7 +5,7 @@ ghost use Rattle.walks.specs.Rules.{pair_step, stepped_pair, union_next_rule, un
 ghost use Rattle.sets.specs.Questions.{pair_questions};
 
 use parts::{End, Selection};
-use sets::{FixedBitSet, Part, Position, blocks_of, check_pair};
+use sets::{FixedBitSet, Part, blocks_of, check_pair};
 use walks::{SteppedPair, step_rows};
 
 // `number` answers the questions of the step. The second part is what `second` selects of the second set, given the first.
@@ -27,7 +27,7 @@ fn two_part_step(
     if number != 0 {
         return SteppedPair {
             number,
-            at: Position::Nothing,
+            at: None,
             one,
             two,
         };

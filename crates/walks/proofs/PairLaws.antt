@@ -7,17 +7,17 @@ use Rattle.parts.specs.declared.records.End.{End}
 use Rattle.parts.specs.declared.records.End.TheVariants.{Front, Back}
 use Rattle.parts.specs.declared.records.Step.{Step}
 use Rattle.sets.specs.declared.answers.Part.{Part}
-use Rattle.sets.specs.declared.answers.Position.{Position}
-use Rattle.sets.specs.declared.answers.Position.TheVariants.{At, Nothing}
+use Rattle.std.specs.Prelude.{Option}
+use Rattle.std.specs.Prelude.{Some, None}
 use Rattle.walks.specs.Helpers.{row_step, placed}
 use Rattle.walks.specs.Rules.{or_else, pair_step}
 use Rattle.walks.specs.declared.rows.RowStep.{RowStep}
 
-pub or-first : {q : Position} (p : ℕ) (x y : RowStep) → q ≡ At p → or_else q x y ≡ x
-or-first p x y e = ap (λ (q : Position). or_else q x y) e
+pub or-first : {q : Option ℕ} (p : ℕ) (x y : RowStep) → q ≡ Some p → or_else q x y ≡ x
+or-first p x y e = ap (λ (q : Option ℕ). or_else q x y) e
 
-pub or_second : {q : Position} (x y : RowStep) → q ≡ Nothing → or_else q x y ≡ y
-or_second x y e = ap (λ (q : Position). or_else q x y) e
+pub or_second : {q : Option ℕ} (x y : RowStep) → q ≡ None → or_else q x y ≡ y
+or_second x y e = ap (λ (q : Option ℕ). or_else q x y) e
 
 -- the records after a step of one of two parts
 module _ (one two : Part) (r : RowStep) where
@@ -32,13 +32,13 @@ module _ (f g : ℕ → Bool) (one two : Part) where
   pub placed_is : (end : End) → placed one two (row_step end f g one two) ≡ pair_step end f g one two
   placed_is Front = go (front f one).at (front f one).part (front g two)
     where
-      go : (x : Position) (s : Part) (t : Step) → placed one two (or_else x (record { second = false; at = x; part = s }) (record { second = true; at = t.at; part = t.part }))
+      go : (x : Option ℕ) (s : Part) (t : Step) → placed one two (or_else x (record { second = false; at = x; part = s }) (record { second = true; at = t.at; part = t.part }))
           ≡ or_else x (record { at = x; one = s; two = two }) (record { at = t.at; one = one; two = t.part })
-      go (At p) s t = refl
-      go Nothing s t = refl
+      go (Some p) s t = refl
+      go None s t = refl
   placed_is Back = go (back g two).at (back g two).part (back f one)
     where
-      go : (x : Position) (s : Part) (t : Step) → placed one two (or_else x (record { second = true; at = x; part = s }) (record { second = false; at = t.at; part = t.part }))
+      go : (x : Option ℕ) (s : Part) (t : Step) → placed one two (or_else x (record { second = true; at = x; part = s }) (record { second = false; at = t.at; part = t.part }))
           ≡ or_else x (record { at = x; one = one; two = s }) (record { at = t.at; one = t.part; two = two })
-      go (At p) s t = refl
-      go Nothing s t = refl
+      go (Some p) s t = refl
+      go None s t = refl

@@ -4,14 +4,14 @@ use Rattle.sets.specs.Members.{read, Members}
 use Rattle.sets.specs.Outcomes.{given}
 use Rattle.sets.specs.Questions.{part_questions, two_questions, pair_questions}
 use Rattle.sets.specs.declared.fixed_bit_set.FixedBitSet.{FixedBitSet}
-use Rattle.sets.specs.declared.answers.Position.TheVariants.{Nothing, At}
+use Rattle.std.specs.Prelude.{None, Some}
 use Rattle.parts.specs.Steps.{front, back}
 use Rattle.parts.specs.declared.records.End.{End}
 use Rattle.parts.specs.declared.records.End.TheVariants.{Front, Back}
 use Rattle.sets.specs.declared.answers.Part.{Part}
 use Rattle.parts.specs.declared.records.Step.{Step}
 use Rattle.walks.specs.declared.answers.Stepped.{Stepped}
-use Rattle.sets.specs.declared.answers.Position.{Position}
+use Rattle.std.specs.Prelude.{Option}
 use Rattle.walks.specs.declared.answers.SteppedPair.{SteppedPair}
 
 -- at first 0 and L
@@ -23,7 +23,7 @@ abbrev pub taken : Step → Stepped
 taken s = record { number = 0; at = s.at; part = s.part }
 
 abbrev pub stepped : ℕ → Part → Step → Stepped
-stepped n part s = given n (λ m. record { number = m; at = Nothing; part = part }) (taken s)
+stepped n part s = given n (λ m. record { number = m; at = None; part = part }) (taken s)
 
 -- `ones`: members of A, rising
 abbrev pub ones_next_rule : FixedBitSet → List ℕ → Part → Stepped
@@ -51,14 +51,14 @@ difference_next_back_rule a ws b vs part = stepped (two_questions a ws b vs part
 
 -- a position or none, and both records
 pub record PairStep : Type 0 where
-  pub at : Position
+  pub at : Option ℕ
   pub one : Part
   pub two : Part
 
 -- the part that is tried first decides where it gives a position, else the other
-abbrev pub or_else : {A : Type 0} → Position → A → A → A
-or_else (At p) x y = x
-or_else Nothing x y = y
+abbrev pub or_else : {A : Type 0} → Option ℕ → A → A → A
+or_else (Some p) x y = x
+or_else None x y = y
 
 -- a front step tries the first part, then the second; a back step the second, then the first
 abbrev pub pair_step : End → (ℕ → Bool) → (ℕ → Bool) → Part → Part → PairStep
@@ -74,7 +74,7 @@ abbrev pub taken_pair : PairStep → SteppedPair
 taken_pair s = record { number = 0; at = s.at; one = s.one; two = s.two }
 
 abbrev pub stepped_pair : ℕ → Part → Part → PairStep → SteppedPair
-stepped_pair n one two s = given n (λ m. record { number = m; at = Nothing; one = one; two = two }) (taken_pair s)
+stepped_pair n one two s = given n (λ m. record { number = m; at = None; one = one; two = two }) (taken_pair s)
 
 -- the members of the first that are not in the second
 abbrev pub without : Members → Members → ℕ → Bool

@@ -1,12 +1,12 @@
 ghost use Rattle.std.specs.Prelude.{◌≡◌};
 ghost use Rattle.walks.specs.Rules.{first_part};
 
-use sets::{FixedBitSet, Part, Position};
+use sets::{FixedBitSet, Part};
 
 #[derive(Clone, Copy)]
 pub struct Stepped {
     pub number: u64,
-    pub at: Position,
+    pub at: Option<usize>,
     pub part: Part,
 }
 
@@ -14,7 +14,7 @@ pub struct Stepped {
 #[derive(Clone, Copy)]
 pub struct SteppedPair {
     pub number: u64,
-    pub at: Position,
+    pub at: Option<usize>,
     pub one: Part,
     pub two: Part,
 }

@@ -8,7 +8,7 @@ ghost use Rattle.sets.specs.Questions.{two_questions};
 
 use crate::answers::Stepped;
 use parts::{End, Selection, back_selected, front_selected};
-use sets::{FixedBitSet, Part, Position, blocks_of, check_two};
+use sets::{FixedBitSet, Part, blocks_of, check_two};
 
 // `number` answers the questions of the step. The part ends within the first set, so nothing after its own words is looked at.
 pub(crate) fn pair_step(
@@ -27,7 +27,7 @@ pub(crate) fn pair_step(
     if number != 0 {
         return Stepped {
             number,
-            at: Position::Nothing,
+            at: None,
             part,
         };
     }
@@ -40,13 +40,13 @@ pub(crate) fn pair_step(
             if high <= p {
                 return Stepped {
                     number: 0,
-                    at: Position::Nothing,
+                    at: None,
                     part,
                 };
             }
             Stepped {
                 number: 0,
-                at: Position::At(p),
+                at: Some(p),
                 part: Part { low: p + 1, high },
             }
         }
@@ -55,13 +55,13 @@ pub(crate) fn pair_step(
             if above <= low {
                 return Stepped {
                     number: 0,
-                    at: Position::Nothing,
+                    at: None,
                     part,
                 };
             }
             Stepped {
                 number: 0,
-                at: Position::At(above - 1),
+                at: Some(above - 1),
                 part: Part {
                     low,
                     high: above - 1,

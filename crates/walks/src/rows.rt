@@ -4,13 +4,13 @@ ghost use Rattle.parts.specs.Steps.{step};
 ghost use Rattle.walks.specs.Helpers.{row_of, tried, row_step};
 
 use parts::{End, Selection, step_selected};
-use sets::{Part, Position};
+use sets::Part;
 
 // A step of one of two parts: whether it is the second, and that part's record after it.
 #[derive(Clone, Copy)]
 pub struct RowStep {
     pub second: bool,
-    pub at: Position,
+    pub at: Option<usize>,
     pub part: Part,
 }
 
@@ -31,12 +31,12 @@ fn try_rows(
     let at = step.at;
     let left = step.part;
     match at {
-        Position::At(p) => RowStep {
+        Some(p) => RowStep {
             second,
-            at: Position::At(p),
+            at: Some(p),
             part: left,
         },
-        Position::Nothing => {
+        None => {
             let last = step_selected(other, words, later, later_selection, end);
             let found = last.at;
             let rest = last.part;

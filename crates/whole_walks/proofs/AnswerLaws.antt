@@ -9,7 +9,7 @@ use lib.ListN.{length, get_or, take, drop, set, length-set, take-append-drop}
 use lib.Seq.{take-suc-set, drop-set-lt, drop-cons, drop-length, append_snoc}
 use Rattle.sets.specs.Members.{words_of, Members, read}
 use Rattle.sets.specs.declared.answers.Part.{Part}
-use Rattle.sets.specs.declared.answers.Position.{Position}
+use Rattle.std.specs.Prelude.{Option}
 use Rattle.sets.specs.declared.fixed_bit_set.FixedBitSet.{FixedBitSet}
 use Rattle.sets.proofs.QuestionLaws.{BothValid}
 use Rattle.parts.specs.Selections.{selected}
@@ -83,7 +83,7 @@ module _ (f g : ℕ → Bool) (steps : List ℕ) (one₀ two₀ : Part) (out₀ 
       let rest = words_from (suc k) left.one left.two in
       let ends = map end_of (drop (suc k) steps) in
       let later : rest ≡ words_from (suc k) s.one s.two =
-      ap (λ (xs : List Position). map answer_word xs) (same_answers f g f g ends left.one left.two s.one s.two (row-good f g one two t).1) in
+      ap (λ (xs : List (Option ℕ)). map answer_word xs) (same_answers f g f g ends left.one left.two s.one s.two (row-good f g one two t).1) in
       rw (v, af, st, e, add-one k) record {
         passed = l;
         same = length-set out k x ∙ h.same;

@@ -8,8 +8,8 @@ use native.Mathlib.Nat.{add-sub_of_le}
 use native.Mathlib.Omega.{arith}
 use Rattle.word_bits.proofs.Ends.{below_no, below_yes, above_no, above_yes}
 use Rattle.word_bits.proofs.Order.{lt-or-le}
-use Rattle.sets.specs.declared.answers.Position.{Position}
-use Rattle.sets.specs.declared.answers.Position.TheVariants.{At, Nothing}
+use Rattle.std.specs.Prelude.{Option}
+use Rattle.std.specs.Prelude.{Some, None}
 use Rattle.parts.specs.Steps.{ahead, behind, front, back, step}
 use Rattle.parts.specs.declared.records.End.{End}
 use Rattle.parts.specs.declared.records.End.TheVariants.{Front, Back}
@@ -30,8 +30,8 @@ kept Back part p = under part p
 -- a step gives the first position from its end, or there is none
 pub data Outcome (end : End) (f : ℕ → Bool) (part : Part) : Step → Type 0 where
   gives : (p : ℕ) → part.low ≤ p → p < part.high → f p ≡ true → NoneIn f (passed end part p)
-      → Outcome end f part (record { at = At p; part = kept end part p })
-  lacks : NoneIn f part → Outcome end f part (record { at = Nothing; part = part })
+      → Outcome end f part (record { at = Some p; part = kept end part p })
+  lacks : NoneIn f part → Outcome end f part (record { at = None; part = part })
 
 module _ (f : ℕ → Bool) (part : Part) where
   abbrev size : ℕ
@@ -75,10 +75,10 @@ module _ (f : ℕ → Bool) (part : Part) where
   step-outcome Back = back-outcome
 
 -- what a step takes from a list: its first or its last position, or none where the list is empty
-abbrev pub Taken : Position → End → List ℕ → List ℕ → Type 0
-Taken (At p) Front whole rest = whole ≡ p ∷ rest
-Taken (At p) Back whole rest = whole ≡ rest ++ (p ∷ [])
-Taken Nothing end whole rest = (whole ≡ []) × (rest ≡ [])
+abbrev pub Taken : Option ℕ → End → List ℕ → List ℕ → Type 0
+Taken (Some p) Front whole rest = whole ≡ p ∷ rest
+Taken (Some p) Back whole rest = whole ≡ rest ++ (p ∷ [])
+Taken None end whole rest = (whole ≡ []) × (rest ≡ [])
 
 module _ (f : ℕ → Bool) (part : Part) where
   outcome-taken : (end : End) {s : Step} → Outcome end f part s → Taken s.at end (part_left f part) (part_left f s.part)

@@ -7,8 +7,8 @@ use native.Mathlib.Nat.{le_refl, le_trans}
 use native.Mathlib.Omega.{arith}
 use lib.ListN.{get_or}
 use Rattle.sets.specs.declared.answers.Part.{Part}
-use Rattle.sets.specs.declared.answers.Position.{Position}
-use Rattle.sets.specs.declared.answers.Position.TheVariants.{At, Nothing}
+use Rattle.std.specs.Prelude.{Option}
+use Rattle.std.specs.Prelude.{Some, None}
 use Rattle.parts.specs.Steps.{front, back, step}
 use Rattle.parts.specs.declared.records.End.{End}
 use Rattle.parts.specs.declared.records.End.TheVariants.{Front, Back}
@@ -21,7 +21,7 @@ use Rattle.whole_walks.proofs.PartSteps.{Outcome, gives, lacks, step-outcome}
 record Below (n : ℕ) (s : PairStep) : Type 0 where
   first : s.one.high ≤ n
   second : s.two.high ≤ n
-  given : (p : ℕ) → s.at ≡ At p → p < n
+  given : (p : ℕ) → s.at ≡ Some p → p < n
 
 module _ (f : ℕ → Bool) (part : Part) where
   step_high : (end : End) → (step end f part).part.high ≤ part.high
@@ -32,10 +32,10 @@ module _ (f : ℕ → Bool) (part : Part) where
       go Back (gives p a b y zs) = omega arith
       go end (lacks zs) = le_refl part.high
 
-  step_below : (end : End) (p : ℕ) → (step end f part).at ≡ At p → p < part.high
+  step_below : (end : End) (p : ℕ) → (step end f part).at ≡ Some p → p < part.high
   step_below end p e = go (step-outcome f part end) e
     where
-      go : {s : Step} → Outcome end f part s → s.at ≡ At p → p < part.high
+      go : {s : Step} → Outcome end f part s → s.at ≡ Some p → p < part.high
       go (gives q a b y zs) e = let same : q ≡ p = cc in omega arith
       go (lacks zs) e = absurd (let z : ◌≡◌ {A = ℕ} 0 1 = cc in omega arith)
 
@@ -49,16 +49,16 @@ module _ (n : ℕ) (f g : ℕ → Bool) where
       in_second : (e : End) → Below n (record { at = (step e g two).at; one = one; two = (step e g two).part })
       in_second e = record { first = h; second = le_trans (step_high g two e) k; given = λ p is. le_trans (step_below g two e p is) k }
 
-      either : (q : Position) {x y : PairStep} → Below n x → Below n y → Below n (or_else q x y)
-      either (At p) u v = u
-      either Nothing u v = v
+      either : (q : Option ℕ) {x y : PairStep} → Below n x → Below n y → Below n (or_else q x y)
+      either (Some p) u v = u
+      either None u v = v
 
       go : (e : End) → Below n (pair_step e f g one two)
       go Front = either (front f one).at (in_first Front) (in_second Front)
       go Back = either (back g two).at (in_second Back) (in_first Back)
 
   pub answers_below : (ends : List End) (one two : Part) → one.high ≤ n → two.high ≤ n
-      → (k p : ℕ) → get_or (answers_from f g ends one two) k Nothing ≡ At p → p < n
+      → (k p : ℕ) → get_or (answers_from f g ends one two) k None ≡ Some p → p < n
   unfolding answers_from
   answers_below [] one two h k i p e = absurd (let z : ◌≡◌ {A = ℕ} 0 1 = cc in omega arith)
   answers_below (end ∷ ends) one two h k zero p e = (step_in end one two h k).given p e

@@ -7,8 +7,8 @@ use native.Mathlib.Omega.{arith}
 use lib.ListN.{length, take, drop, length-append}
 use lib.Seq.{take_at, drop_at}
 use Rattle.sets.specs.declared.answers.Part.{Part}
-use Rattle.sets.specs.declared.answers.Position.{Position}
-use Rattle.sets.specs.declared.answers.Position.TheVariants.{At, Nothing}
+use Rattle.std.specs.Prelude.{Option}
+use Rattle.std.specs.Prelude.{Some, None}
 use Rattle.parts.specs.Steps.{front, back}
 use Rattle.parts.specs.declared.records.End.{End}
 use Rattle.parts.specs.declared.records.End.TheVariants.{Front, Back}
@@ -41,24 +41,24 @@ module _ (f g : ℕ → Bool) (one two : Part) where
   abbrev GoodRow : End → RowStep → Type 0
   GoodRow end r = Good end r (placed one two r)
 
-  at_front : (x : Position) (s : Part) (y : Position) (t : Part) → Taken x Front (part_left f one) (part_left f s) → Taken y Front (part_left g two) (part_left g t)
+  at_front : (x : Option ℕ) (s : Part) (y : Option ℕ) (t : Part) → Taken x Front (part_left f one) (part_left f s) → Taken y Front (part_left g two) (part_left g t)
       → GoodRow Front (tried false (record { at = x; part = s }) (record { at = y; part = t }))
-  at_front (At p) s y t h k = (ap (λ (xs : List ℕ). xs ++ part_left g two) h, refl)
-  at_front Nothing s (At p) t h k = (
+  at_front (Some p) s y t h k = (ap (λ (xs : List ℕ). xs ++ part_left g two) h, refl)
+  at_front None s (Some p) t h k = (
     ap (λ (xs : List ℕ). xs ++ part_left g two) h.0 ∙ k ∙ ap (λ (xs : List ℕ). p ∷ (xs ++ part_left g t)) (sym h.0),
     ap (λ (xs : List ℕ). xs ++ part_left g t) (nothing_left_lem f ∙ sym h.0),
   )
-  at_front Nothing s Nothing t h k = ((ap₂ ◌++◌ h.0 k.0, ap₂ ◌++◌ h.0 k.1), ap₂ ◌++◌ (nothing_left_lem f ∙ sym h.0) (nothing_left_lem g ∙ sym k.1))
+  at_front None s None t h k = ((ap₂ ◌++◌ h.0 k.0, ap₂ ◌++◌ h.0 k.1), ap₂ ◌++◌ (nothing_left_lem f ∙ sym h.0) (nothing_left_lem g ∙ sym k.1))
 
-  at_back : (x : Position) (s : Part) (y : Position) (t : Part) → Taken x Back (part_left g two) (part_left g s) → Taken y Back (part_left f one) (part_left f t)
+  at_back : (x : Option ℕ) (s : Part) (y : Option ℕ) (t : Part) → Taken x Back (part_left g two) (part_left g s) → Taken y Back (part_left f one) (part_left f t)
       → GoodRow Back (tried true (record { at = x; part = s }) (record { at = y; part = t }))
-  at_back (At p) s y t h k = (ap (λ (xs : List ℕ). part_left f one ++ xs) h ∙ sym (append_assoc (part_left f one) (part_left g s) (p ∷ [])), refl)
-  at_back Nothing s (At p) t h k = (
+  at_back (Some p) s y t h k = (ap (λ (xs : List ℕ). part_left f one ++ xs) h ∙ sym (append_assoc (part_left f one) (part_left g s) (p ∷ [])), refl)
+  at_back None s (Some p) t h k = (
     ap₂ ◌++◌ k h.0 ∙ append-nil (part_left f t ++ (p ∷ []))
         ∙ ap (λ (xs : List ℕ). xs ++ (p ∷ [])) (sym (ap (λ (xs : List ℕ). part_left f t ++ xs) h.0 ∙ append-nil (part_left f t))),
     ap (λ (xs : List ℕ). part_left f t ++ xs) (nothing_left_lem g ∙ sym h.0),
   )
-  at_back Nothing s Nothing t h k = ((ap₂ ◌++◌ k.0 h.0, ap₂ ◌++◌ k.1 h.0), ap₂ ◌++◌ (nothing_left_lem f ∙ sym k.1) (nothing_left_lem g ∙ sym h.0))
+  at_back None s None t h k = ((ap₂ ◌++◌ k.0 h.0, ap₂ ◌++◌ k.1 h.0), ap₂ ◌++◌ (nothing_left_lem f ∙ sym k.1) (nothing_left_lem g ∙ sym h.0))
 
   row-placed : (end : End) → GoodRow end (row_step end f g one two)
   row-placed Front = at_front (front f one).at (front f one).part (front g two).at (front g two).part (step-taken f one Front) (step-taken g two Front)
@@ -70,18 +70,18 @@ module _ (f g : ℕ → Bool) (one two : Part) where
 -- ---- two results of one step of the same list are equal
 
 module _ (whole rest other : List ℕ) where
-  same_taken : (x y : Position) (end : End) → Taken x end whole rest → Taken y end whole other → (x ≡ y) × (rest ≡ other)
-  same_taken (At p) (At q) Front h k = (cc, cc)
-  same_taken (At p) (At q) Back h k =
+  same_taken : (x y : Option ℕ) (end : End) → Taken x end whole rest → Taken y end whole other → (x ≡ y) × (rest ≡ other)
+  same_taken (Some p) (Some q) Front h k = (cc, cc)
+  same_taken (Some p) (Some q) Back h k =
       let n : length other ≡ length rest = omega (arith, simp length-append at (ap length h), simp length-append at (ap length k)) in
       let r : rest ≡ other = sym (take_at rest (p ∷ []) (length rest) refl) ∙ ap (take (length rest)) (sym h ∙ k) ∙ take_at other (q ∷ []) (length rest) n in
       let l : p ∷ [] ≡ q ∷ [] = sym (drop_at rest (p ∷ []) (length rest) refl) ∙ ap (drop (length rest)) (sym h ∙ k) ∙ drop_at other (q ∷ []) (length rest) n in
       (cc, r)
-  same_taken (At p) Nothing Front h k = absurd (omega (arith, ap length h, ap length k.0))
-  same_taken (At p) Nothing Back h k = absurd (omega (arith, simp length-append at (ap length h), ap length k.0))
-  same_taken Nothing (At q) Front h k = absurd (omega (arith, ap length k, ap length h.0))
-  same_taken Nothing (At q) Back h k = absurd (omega (arith, simp length-append at (ap length k), ap length h.0))
-  same_taken Nothing Nothing end h k = (refl, h.1 ∙ sym k.1)
+  same_taken (Some p) None Front h k = absurd (omega (arith, ap length h, ap length k.0))
+  same_taken (Some p) None Back h k = absurd (omega (arith, simp length-append at (ap length h), ap length k.0))
+  same_taken None (Some q) Front h k = absurd (omega (arith, ap length k, ap length h.0))
+  same_taken None (Some q) Back h k = absurd (omega (arith, simp length-append at (ap length k), ap length h.0))
+  same_taken None None end h k = (refl, h.1 ∙ sym k.1)
 
 module _ (f g f' g' : ℕ → Bool) where
   pub same_answers : (ends : List End) (one two one' two' : Part) → both_left f g one two ≡ both_left f' g' one' two'
@@ -93,4 +93,4 @@ module _ (f g f' g' : ℕ → Bool) where
       let t = pair_step end f' g' one' two' in
       let both = same_taken (both_left f g one two) (both_left f g s.one s.two) (both_left f' g' t.one t.two) s.at t.at end
       (row-good f g one two end).0 (rw e (row-good f' g' one' two' end).0) in
-      ap₂ {C = List Position} (λ x xs. x ∷ xs) both.0 (same_answers ends s.one s.two t.one t.two both.1)
+      ap₂ {C = List (Option ℕ)} (λ x xs. x ∷ xs) both.0 (same_answers ends s.one s.two t.one t.two both.1)

@@ -10,8 +10,8 @@ use lib.Dec.{eqb, eqb-suc-suc}
 use lib.ListN.{length, get_or, take, length-append}
 use Rattle.sets.specs.Members.{Members, set_of}
 use Rattle.sets.proofs.WriteLaws.{Clipped}
-use Rattle.sets.specs.declared.answers.Position.{Position}
-use Rattle.sets.specs.declared.answers.Position.TheVariants.{At, Nothing}
+use Rattle.std.specs.Prelude.{Option}
+use Rattle.std.specs.Prelude.{Some, None}
 use Rattle.two_set_counts.specs.Lists.{positions, ones_list, intersection_list, difference_list}
 use Rattle.parts.specs.declared.records.End.{End}
 use Rattle.parts.specs.declared.records.End.TheVariants.{Front, Back}
@@ -33,37 +33,37 @@ eqb-add (suc c) m n = ap₂ eqb (suc-add c m) (suc-add c n) ∙ eqb-suc-suc (c +
 
 -- ---- steps from any records on: the list left before them, by what they gave
 
-record Run (ends : List End) (xs : List Position) (whole : List ℕ) : Type 0 where
+record Run (ends : List End) (xs : List (Option ℕ)) (whole : List ℕ) : Type 0 where
   answered : length xs ≡ length ends
   middle : List ℕ
   in_order : fronts ends xs ++ middle ++ reverse (backs ends xs) ≡ whole
-  none : (k : ℕ) → k < length ends → is_nothing (get_or xs k Nothing) ≡ eqb (gave (take k xs)) (length whole)
+  none : (k : ℕ) → k < length ends → is_nothing (get_or xs k None) ≡ eqb (gave (take k xs)) (length whole)
 
 -- one step, and those after it
 module _ (whole rest : List ℕ) where
-  taken-length : (x : Position) (end : End) → Taken x end whole rest → length whole ≡ length (position_of x) + length rest
-  taken-length (At p) Front t = ap length t ∙ omega arith
-  taken-length (At p) Back t = ap length t ∙ length-append rest (p ∷ []) ∙ omega arith
-  taken-length Nothing end t = omega (arith, ap length t.0, ap length t.1)
+  taken-length : (x : Option ℕ) (end : End) → Taken x end whole rest → length whole ≡ length (position_of x) + length rest
+  taken-length (Some p) Front t = ap length t ∙ omega arith
+  taken-length (Some p) Back t = ap length t ∙ length-append rest (p ∷ []) ∙ omega arith
+  taken-length None end t = omega (arith, ap length t.0, ap length t.1)
 
-  taken_none : (x : Position) (end : End) → Taken x end whole rest → is_nothing x ≡ eqb 0 (length whole)
-  taken_none (At p) end t = sym (ne_eqb 0 (length whole) (λ e. omega (arith, taken-length (At p) end t)))
-  taken_none Nothing end t = sym (ap (λ (ys : List ℕ). eqb 0 (length ys)) t.0)
+  taken_none : (x : Option ℕ) (end : End) → Taken x end whole rest → is_nothing x ≡ eqb 0 (length whole)
+  taken_none (Some p) end t = sym (ne_eqb 0 (length whole) (λ e. omega (arith, taken-length (Some p) end t)))
+  taken_none None end t = sym (ap (λ (ys : List ℕ). eqb 0 (length ys)) t.0)
 
-  module _ (ends : List End) (xs : List Position) where
-    ordered : (x : Position) (end : End) → Taken x end whole rest → (middle : List ℕ) → fronts ends xs ++ middle ++ reverse (backs ends xs) ≡ rest
+  module _ (ends : List End) (xs : List (Option ℕ)) where
+    ordered : (x : Option ℕ) (end : End) → Taken x end whole rest → (middle : List ℕ) → fronts ends xs ++ middle ++ reverse (backs ends xs) ≡ rest
         → fronts (end ∷ ends) (x ∷ xs) ++ middle ++ reverse (backs (end ∷ ends) (x ∷ xs)) ≡ whole
-    ordered (At p) Front t middle e = ap (λ (ys : List ℕ). p ∷ ys) e ∙ sym t
-    ordered (At p) Back t middle e =
+    ordered (Some p) Front t middle e = ap (λ (ys : List ℕ). p ∷ ys) e ∙ sym t
+    ordered (Some p) Back t middle e =
         ap (λ (ys : List ℕ). fronts ends xs ++ middle ++ ys) (reverse-cons p (backs ends xs))
         ∙ sym (append_assoc (fronts ends xs ++ middle) (reverse (backs ends xs)) (p ∷ [])) ∙ ap (λ (ys : List ℕ). ys ++ (p ∷ [])) e ∙ sym t
-    ordered Nothing Front t middle e = e ∙ t.1 ∙ sym t.0
-    ordered Nothing Back t left e = e ∙ t.1 ∙ sym t.0
+    ordered None Front t middle e = e ∙ t.1 ∙ sym t.0
+    ordered None Back t left e = e ∙ t.1 ∙ sym t.0
 
-    one_more : (x : Position) (end : End) → Taken x end whole rest → Run ends xs rest → Run (end ∷ ends) (x ∷ xs) whole
+    one_more : (x : Option ℕ) (end : End) → Taken x end whole rest → Run ends xs rest → Run (end ∷ ends) (x ∷ xs) whole
     one_more x end t r = record { answered = ap suc r.answered; middle = r.middle; in_order = ordered x end t r.middle r.in_order; none = go }
       where
-        go : (k : ℕ) → k < suc (length ends) → is_nothing (get_or (x ∷ xs) k Nothing) ≡ eqb (gave (take k (x ∷ xs))) (length whole)
+        go : (k : ℕ) → k < suc (length ends) → is_nothing (get_or (x ∷ xs) k None) ≡ eqb (gave (take k (x ∷ xs))) (length whole)
         go zero l = taken_none x end t
         go (suc k) l =
             r.none k (le_of_suc-le-suc l)

@@ -1,8 +1,8 @@
 -- What the steps of a whole walk run on.
 use Rattle.std.specs.Prelude.{cond}
 use Rattle.sets.specs.declared.answers.Part.{Part}
-use Rattle.sets.specs.declared.answers.Position.{Position}
-use Rattle.sets.specs.declared.answers.Position.TheVariants.{At, Nothing}
+use Rattle.std.specs.Prelude.{Option}
+use Rattle.std.specs.Prelude.{Some, None}
 use Rattle.sets.specs.declared.fixed_bit_set.FixedBitSet.{FixedBitSet}
 use Rattle.parts.specs.declared.records.End.{End}
 use Rattle.parts.specs.declared.records.End.TheVariants.{Front, Back}
@@ -35,9 +35,9 @@ second_part Union b = first_part b
 second_part SymmetricDifference b = first_part b
 
 -- the records after a step, with nothing left of a part that gave none: the one that was stepped, and before it the one tried first
-abbrev pub left_of : Position → Part → Part
-left_of (At p) part = part
-left_of Nothing part = nothing_left
+abbrev pub left_of : Option ℕ → Part → Part
+left_of (Some p) part = part
+left_of None part = nothing_left
 
 abbrev pub records_after : Part → Part → End → RowStep → Records
 records_after one two Front r = cond r.second (record { one = nothing_left; two = left_of r.at r.part }) (record { one = left_of r.at r.part; two = two })

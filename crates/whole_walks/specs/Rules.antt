@@ -6,8 +6,8 @@ use Rattle.sets.specs.Questions.{first, both_questions}
 use Rattle.sets.specs.declared.fixed_bit_set.FixedBitSet.{FixedBitSet}
 use Rattle.sets.specs.declared.answers.Counted.{Counted}
 use Rattle.tests.specs.Rules.{count_ones_rule}
-use Rattle.sets.specs.declared.answers.Position.{Position}
-use Rattle.sets.specs.declared.answers.Position.TheVariants.{At, Nothing}
+use Rattle.std.specs.Prelude.{Option}
+use Rattle.std.specs.Prelude.{Some, None}
 use Rattle.two_set_counts.specs.Rules.{union_count_rule, intersection_count_rule, difference_count_rule, symmetric_difference_count_rule}
 use Rattle.parts.specs.declared.records.End.{End}
 use Rattle.parts.specs.declared.records.End.TheVariants.{Front, Back}
@@ -28,12 +28,12 @@ abbrev pub end_of : ℕ → End
 end_of n = cond (eqb n 0) Front Back
 
 -- an answer as a word: its position, or 2 ^ 64 - 1 for none
-abbrev pub answer_word : Position → ℕ
-answer_word (At p) = p
-answer_word Nothing = 2 ^ 64 - 1
+abbrev pub answer_word : Option ℕ → ℕ
+answer_word (Some p) = p
+answer_word None = 2 ^ 64 - 1
 
-abbrev pub answer_of : ℕ → Position
-answer_of x = cond (eqb x (2 ^ 64 - 1)) Nothing (At x)
+abbrev pub answer_of : ℕ → Option ℕ
+answer_of x = cond (eqb x (2 ^ 64 - 1)) None (Some x)
 
 -- 7, of the buffer for the answers: a word for each step
 unfoldable pub answers_question : ℕ → ℕ → ℕ

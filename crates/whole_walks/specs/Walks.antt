@@ -3,7 +3,7 @@ use Rattle.std.specs.Prelude.{Bool, false, not, ◌&&◌, ◌||◌, List, [], �
 use Rattle.std.specs.Bool.{xor}
 use Rattle.sets.specs.Members.{Members, set_of}
 use Rattle.sets.specs.declared.answers.Part.{Part}
-use Rattle.sets.specs.declared.answers.Position.{Position}
+use Rattle.std.specs.Prelude.{Option}
 use Rattle.two_set_counts.specs.Lists.{positions, ones_list, intersection_list, difference_list, union_list, symmetric_difference_list}
 use Rattle.parts.specs.declared.records.End.{End}
 use Rattle.walks.specs.Rules.{first_part, pair_step, without}
@@ -50,11 +50,11 @@ wanted Union a b p = a.has p || b.has p
 wanted SymmetricDifference a b p = xor (a.has p) (b.has p)
 
 -- the answers to a list of steps of two parts: each takes the records that the one before gave
-unfoldable pub answers_from : (ℕ → Bool) → (ℕ → Bool) → List End → Part → Part → List Position
+unfoldable pub answers_from : (ℕ → Bool) → (ℕ → Bool) → List End → Part → Part → List (Option ℕ)
 answers_from f g [] one two = []
 answers_from f g (end ∷ ends) one two =
     (pair_step end f g one two).at ∷ answers_from f g ends (pair_step end f g one two).one (pair_step end f g one two).two
 
 -- the first step takes each part's record as it is at first
-abbrev pub answers : Walk → Members → Members → List End → List Position
+abbrev pub answers : Walk → Members → Members → List End → List (Option ℕ)
 answers walk a b ends = answers_from (first_row walk a b) (second_row walk a b) ends (first_part (set_of a)) (first_part (set_of b))

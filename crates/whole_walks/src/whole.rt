@@ -8,7 +8,7 @@ ghost use Rattle.whole_walks.specs.Rules.{end_of, answer_word, walk_outcome, wal
 use crate::walk::Walk;
 use crate::walk_counts::walk_count;
 use parts::{End, Selection};
-use sets::{Counted, FixedBitSet, Part, Position, blocks_of, check_both};
+use sets::{Counted, FixedBitSet, Part, blocks_of, check_both};
 use walks::{RowStep, first_part, step_rows};
 
 fn end_of(number: u64) -> End
@@ -17,12 +17,12 @@ fn end_of(number: u64) -> End
     if number == 0 { End::Front } else { End::Back }
 }
 
-fn answer_word(at: Position) -> u64
+fn answer_word(at: Option<usize>) -> u64
     ensures { result ≡ answer_word at }
 {
     match at {
-        Position::At(p) => p as u64,
-        Position::Nothing => u64::MAX,
+        Some(p) => p as u64,
+        None => u64::MAX,
     }
 }
 
@@ -51,12 +51,12 @@ fn second_part(walk: Walk, b: FixedBitSet) -> Part
     Part { low: 0, high }
 }
 
-fn left_of(at: Position, part: Part) -> Part
+fn left_of(at: Option<usize>, part: Part) -> Part
     ensures { result ≡ left_of at part }
 {
     match at {
-        Position::At(p) => part,
-        Position::Nothing => Part { low: 0, high: 0 },
+        Some(p) => part,
+        None => Part { low: 0, high: 0 },
     }
 }
 

@@ -6,8 +6,8 @@ use Rattle.sets.specs.Members.{words_of}
 use Rattle.sets.proofs.OutcomeLaws.{given_no, given_yes}
 use Rattle.sets.proofs.QuestionLaws.{Valid, valid}
 use Rattle.sets.proofs.WordLaws.{words_hold}
-use Rattle.sets.specs.declared.answers.Position.{Position}
-use Rattle.sets.specs.declared.answers.Position.TheVariants.{At}
+use Rattle.std.specs.Prelude.{Option}
+use Rattle.std.specs.Prelude.{Some}
 use Rattle.extremes.proofs.ExtremeLaws.{greatest-none, greatest_at}
 use Rattle.tests.proofs.ScanLaws.{descend_after, descend_stop}
 use native.Mathlib.Omega.{arith}
@@ -47,7 +47,7 @@ returns-then-above-eq0 c =
     let w : ℕ → ℕ = λ i. get_or a.words.now i 0 in
     let e = rw c.blocks_of.ensures at c.above_last-above.ensures in
     given_yes _ (sym c.if-number-ne0.false ∙ c.check-number.ensures)
-    (ap (λ (p : Position). record { number = 0; at = p })
+    (ap (λ (p : Option ℕ). record { number = 0; at = p })
     (sym (greatest-none a.set a.words.now (held (goal.at.returns-then-above-eq0 c).Else-number-ne0)
     (λ k l. descend_after w (words_of a.set.length) 0 c.above_last-above.result e k (omega arith) l))))
 
@@ -76,7 +76,7 @@ returns c =
     let e = rw c.blocks_of.ensures at c.above_last-above.ensures in
     let same : r * 64 - 1 - z ≡ (r - 1) * 64 + (63 - z) = omega (arith, low (goal.at.returns c).After-leading_zeros-zeros, c.if-above-eq0.false) in
     given_yes _ (sym c.if-number-ne0.false ∙ c.check-number.ensures)
-    (ap (λ (p : Position). record { number = 0; at = p })
-    (ap At same ∙ ap (λ (t : ℕ). At ((r - 1) * 64 + (63 - t))) c.leading_zeros-zeros.ensures
+    (ap (λ (p : Option ℕ). record { number = 0; at = p })
+    (ap Some same ∙ ap (λ (t : ℕ). Some ((r - 1) * 64 + (63 - t))) c.leading_zeros-zeros.ensures
     ∙ sym (greatest_at a.set a.words.now (held (goal.at.returns c).Else-number-ne0) (r - 1) (omega (arith, inside (goal.at.returns c).Else-above-eq0, c.if-above-eq0.false)) (c.shared_slice_known-2-1.given (r - 1)).fits (descend_stop w n 0 r e c.if-above-eq0.false)
     (λ i l h. descend_after w n 0 r e i (omega arith) h))))

@@ -7,8 +7,8 @@ use Rattle.sets.specs.Members.{words_of}
 use Rattle.sets.proofs.OutcomeLaws.{given_no, given_yes}
 use Rattle.sets.proofs.QuestionLaws.{Valid, valid}
 use Rattle.sets.proofs.WordLaws.{words_hold}
-use Rattle.sets.specs.declared.answers.Position.{Position}
-use Rattle.sets.specs.declared.answers.Position.TheVariants.{At}
+use Rattle.std.specs.Prelude.{Option}
+use Rattle.std.specs.Prelude.{Some}
 use Rattle.extremes.proofs.ExtremeLaws.{least-none, least_at}
 use Rattle.tests.proofs.ScanLaws.{scan_whole, scan_before, scan_stop}
 use native.Mathlib.Omega.{arith}
@@ -38,7 +38,7 @@ returns-then-blocks-k c =
     let e = scan_whole w 0 (words_of a.set.length) 0 (held (goal.at.returns-then-blocks-k c).Else-number-ne0).enough (rw c.blocks_of-blocks.ensures at c.first_other-k.ensures) in
     let h = rw c.blocks_of-blocks.ensures at c.if-blocks-k.true in
     given_yes _ (sym c.if-number-ne0.false ∙ c.check-number.ensures)
-    (ap (λ (p : Position). record { number = 0; at = p })
+    (ap (λ (p : Option ℕ). record { number = 0; at = p })
     (sym (least-none a.set a.words.now (held (goal.at.returns-then-blocks-k c).Else-number-ne0)
     (λ k l. scan_before w 0 (words_of a.set.length) 0 c.first_other-k.result e k (omega arith) (omega arith)))))
 
@@ -63,7 +63,7 @@ returns c =
     let e = scan_whole w 0 n 0 (held (goal.at.returns c).Else-number-ne0).enough (rw c.blocks_of-blocks.ensures at c.first_other-k.ensures) in
     let h = rw c.blocks_of-blocks.ensures at c.if-blocks-k.false in
     given_yes _ (sym c.if-number-ne0.false ∙ c.check-number.ensures)
-    (ap (λ (p : Position). record { number = 0; at = p })
-    (ap (λ (t : ℕ). At (k * 64 + t)) c.trailing_zeros.ensures
+    (ap (λ (p : Option ℕ). record { number = 0; at = p })
+    (ap (λ (t : ℕ). Some (k * 64 + t)) c.trailing_zeros.ensures
     ∙ sym (least_at a.set a.words.now (held (goal.at.returns c).Else-number-ne0) k h (c.shared_slice_known-2-1.given k).fits (scan_stop w 0 n 0 k e h)
     (λ i l. scan_before w 0 n 0 k e i (omega arith) l))))

@@ -5,7 +5,7 @@ use native.Mathlib.Omega.{arith}
 use lib.ListN.{length, drop}
 use lib.Seq.{length-take-le}
 use Rattle.sets.specs.declared.answers.Counted.{Counted}
-use Rattle.sets.specs.declared.answers.Position.{Position}
+use Rattle.std.specs.Prelude.{Option}
 use Rattle.sets.proofs.OutcomeLaws.{given_no, given_yes}
 use Rattle.sets.proofs.QuestionLaws.{first_no, first-yes, BothValid, both_valid}
 use Rattle.whole_walks.specs.Rules.{answer_word, walk_outcome}
@@ -39,6 +39,6 @@ returns c =
     (ap₂ (λ (r : Counted) (out : List ℕ). walk_outcome r out)
     (c.walk_count.ensures ∙ count-accepted a.a a.words.now a.b a.other.now ok a.walk)
     (c.take_steps.ensures
-    ∙ ap (λ (xs : List Position). map answer_word xs ++ drop (length a.steps.now) a.out.now)
+    ∙ ap (λ (xs : List (Option ℕ)). map answer_word xs ++ drop (length a.steps.now) a.out.now)
     (walk_answers a.a a.words.now a.b a.other.now (held (goal.at.returns c).Else-out-steps) a.walk _ c.blocks_of.ensures c.blocks_of-2.ensures
     c.first_part.ensures c.second_part.ensures c.selection_of.ensures)))

@@ -1,7 +1,7 @@
 use mathlib.Core.Path.{sym}
 use Rattle.sets.proofs.QuestionLaws.{question_6, question_7, room_yes}
 use native.Mathlib.Omega.{arith}
-use Rattle.sets.proofs.questions.ask_new.Goals as goal
+use Rattle.sets.proofs.checks.check_new.Goals as goal
 
 pub returns-then-bits-gt65536 : goal.returns-then-bits-gt65536
 returns-then-bits-gt65536 c = sym (question_6 _ _ c.if-bits-gt65536.true)

@@ -1,0 +1,67 @@
+ghost use Rattle.std.specs.Prelude.{◌≡◌};
+ghost use Rattle.sets.specs.Refusals.{told_of, counted_of, found_of, edited_of};
+
+use crate::answers::{Counted, Edited, Found, Told};
+use crate::fixed_bit_set::FixedBitSet;
+use crate::refusal::Refusal;
+
+// Each answer as a record, with its number.
+impl From<Result<bool, Refusal>> for Told {
+    ghost from_gives = { λ a r. r ≡ told_of a };
+
+    fn from(answer: Result<bool, Refusal>) -> Told {
+        match answer {
+            Ok(yes) => Told { number: 0, yes },
+            Err(refusal) => Told {
+                number: refusal.into(),
+                yes: false,
+            },
+        }
+    }
+}
+
+impl From<Result<usize, Refusal>> for Counted {
+    ghost from_gives = { λ a r. r ≡ counted_of a };
+
+    fn from(answer: Result<usize, Refusal>) -> Counted {
+        match answer {
+            Ok(count) => Counted { number: 0, count },
+            Err(refusal) => Counted {
+                number: refusal.into(),
+                count: 0,
+            },
+        }
+    }
+}
+
+impl From<Result<Option<usize>, Refusal>> for Found {
+    ghost from_gives = { λ a r. r ≡ found_of a };
+
+    fn from(answer: Result<Option<usize>, Refusal>) -> Found {
+        match answer {
+            Ok(at) => Found { number: 0, at },
+            Err(refusal) => Found {
+                number: refusal.into(),
+                at: None,
+            },
+        }
+    }
+}
+
+impl Edited {
+    // The set as handed in stands beside a refusal.
+    pub fn new(set: FixedBitSet, answer: Result<FixedBitSet, Refusal>) -> Edited
+        ensures { result ≡ edited_of set answer }
+    {
+        match answer {
+            Ok(after) => Edited {
+                number: 0,
+                set: after,
+            },
+            Err(refusal) => Edited {
+                number: refusal.into(),
+                set,
+            },
+        }
+    }
+}
