@@ -1,27 +1,19 @@
 ghost use Rattle.std.specs.Prelude.{◌≡◌, ◌≤◌, length};
 ghost use Rattle.sets.specs.Members.{words_of, read, write, set_of, empty};
 ghost use Rattle.sets.specs.Outcomes.{outcome};
+ghost use Rattle.sets.specs.Refusals.{edited_of};
 ghost use Rattle.sets.specs.Rules.{with_capacity_rule, with_capacity_and_blocks_rule};
 
 use blocks::{block, change_blocks, copy_blocks, lesser};
-use sets::{Edited, FixedBitSet, ask_new, blocks_of};
+use sets::{FixedBitSet, Refusal, blocks_of, check_new};
 
 // A fresh set of `bits` bits with no members. Asks 6 and 7.
-pub fn with_capacity(bits: usize, words: &mut [u64]) -> Edited
-    ensures { outcome result words.new ≡ with_capacity_rule bits words.old }
+pub fn with_capacity(bits: usize, words: &mut [u64]) -> Result<FixedBitSet, Refusal>
+    ensures { outcome (edited_of (set_of (empty 0)) result) words.new ≡ with_capacity_rule bits words.old }
 {
-    let number = ask_new(bits, words);
-    if number != 0 {
-        return Edited {
-            number,
-            set: FixedBitSet::new(0),
-        };
-    }
+    check_new(bits, words)?;
     change_blocks(words, 0, blocks_of(bits), 0, 0);
-    Edited {
-        number: 0,
-        set: FixedBitSet::new(bits),
-    }
+    Ok(FixedBitSet::new(bits))
 }
 
 // The words of a set of `bits` bits that has what the blocks have below `bits`.
@@ -41,19 +33,14 @@ fn fill_from(bits: usize, blocks: &[u64], words: &mut [u64])
 }
 
 // A fresh set of `bits` bits from blocks: missing ones are 0, further ones and the bits from `bits` up are dropped. Asks 6 and 7.
-pub fn with_capacity_and_blocks(bits: usize, blocks: &[u64], words: &mut [u64]) -> Edited
-    ensures { outcome result words.new ≡ with_capacity_and_blocks_rule bits blocks.now words.old }
+pub fn with_capacity_and_blocks(
+    bits: usize,
+    blocks: &[u64],
+    words: &mut [u64],
+) -> Result<FixedBitSet, Refusal>
+    ensures { outcome (edited_of (set_of (empty 0)) result) words.new ≡ with_capacity_and_blocks_rule bits blocks.now words.old }
 {
-    let number = ask_new(bits, words);
-    if number != 0 {
-        return Edited {
-            number,
-            set: FixedBitSet::new(0),
-        };
-    }
+    check_new(bits, words)?;
     fill_from(bits, blocks, words);
-    Edited {
-        number: 0,
-        set: FixedBitSet::new(bits),
-    }
+    Ok(FixedBitSet::new(bits))
 }

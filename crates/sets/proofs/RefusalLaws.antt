@@ -5,9 +5,11 @@ use native.Mathlib.Omega.{arith}
 use Rattle.std.specs.Result.{IsErrAnd}
 use Rattle.std.proofs.Common.{Result, Ok, Err}
 use Rattle.std.proofs.lemmas.Result.{err_from_is_err_and}
-use Rattle.sets.specs.Outcomes.{given}
+use mathlib.Core.List.{List}
+use Rattle.sets.specs.Outcomes.{Outcome, outcome, given}
 use Rattle.sets.specs.Questions.{first}
-use Rattle.sets.specs.Refusals.{number, number_of, answer_of}
+use Rattle.sets.specs.Refusals.{number, number_of, answer_of, edited_of}
+use Rattle.sets.specs.declared.fixed_bit_set.FixedBitSet.{FixedBitSet}
 use Rattle.sets.specs.declared.refusal.Refusal.{Refusal}
 use Rattle.sets.specs.declared.refusal.Refusal.TheVariants.{TooLong, TooFewWords, StrayBits, BeyondLength, NoRange, NewTooLong, NoRoom, NoPart, OldTwice, NewTwice, Unpaired}
 use Rattle.sets.proofs.OutcomeLaws.{given_no}
@@ -45,3 +47,12 @@ pub number_refused : {A : Type 0} {a : ℕ} (r : Result A Refusal) (e : Refusal)
 number_refused r e passed numbered =
     let p = err_from_is_err_and r passed in
     ap number_of p.1 ∙ ap number p.2 ∙ numbered
+
+-- an edit that a refusal ends: the set as handed in, and the words as they then are
+pub edit_refused : (set : FixedBitSet) (ws : List ℕ) (given_else : Outcome) {n : ℕ} (r : Result FixedBitSet Refusal) (e : Refusal)
+    → IsErrAnd r (λ d. d ≡ e) → number e ≡ n
+    → outcome (edited_of set r) ws ≡ given n (λ m. record { number = m; set = set; words = ws }) given_else
+edit_refused set ws given_else r e passed numbered =
+    let p = err_from_is_err_and r passed in
+    ap (λ (x : Result FixedBitSet Refusal). outcome (edited_of set x) ws) p.1
+    ∙ given_no (λ m. record { number = m; set = set; words = ws }) given_else (ap number p.2 ∙ numbered) (number_ne0 p.0)
