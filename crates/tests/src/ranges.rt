@@ -1,12 +1,13 @@
 ghost use Rattle.std.specs.Prelude.{◌&&◌, ◌≡◌, ℕ, ◌*◌, ◌≤◌, length};
 ghost use Rattle.word_bits.specs.Counts.{some};
 ghost use Rattle.masks.specs.Ranges.{covers};
+ghost use Rattle.sets.specs.Refusals.{told_of};
 ghost use Rattle.tests.specs.Rules.{contains_all_rule, contains_any_rule, is_full_rule, is_clear_rule};
 ghost use Rattle.tests.specs.Helpers.{differs};
 
 use crate::scans::first_other;
 use masks::Masks;
-use sets::{FixedBitSet, Told, check, check_range};
+use sets::{FixedBitSet, Refusal};
 
 // Whether some bit of the range differs from the bit of `skip` in its place.
 fn some_other(words: &[u64], start: usize, end: usize, skip: u64) -> bool
@@ -32,57 +33,43 @@ fn some_other(words: &[u64], start: usize, end: usize, skip: u64) -> bool
 }
 
 // Whether each position of the range is a member. Asks 1 to 3, then 5.
-pub fn contains_all_in_range(set: FixedBitSet, words: &[u64], start: usize, end: usize) -> Told
-    ensures { result ≡ contains_all_rule set words.now start end }
+pub fn contains_all_in_range(
+    set: FixedBitSet,
+    words: &[u64],
+    start: usize,
+    end: usize,
+) -> Result<bool, Refusal>
+    ensures { told_of result ≡ contains_all_rule set words.now start end }
 {
-    let number = check_range(set, words, start, end);
-    if number != 0 {
-        return Told { number, yes: false };
-    }
-    Told {
-        number: 0,
-        yes: !some_other(words, start, end, u64::MAX),
-    }
+    set.check_range(words, start, end)?;
+    Ok(!some_other(words, start, end, u64::MAX))
 }
 
 // Whether some position of the range is a member. Asks 1 to 3, then 5.
-pub fn contains_any_in_range(set: FixedBitSet, words: &[u64], start: usize, end: usize) -> Told
-    ensures { result ≡ contains_any_rule set words.now start end }
+pub fn contains_any_in_range(
+    set: FixedBitSet,
+    words: &[u64],
+    start: usize,
+    end: usize,
+) -> Result<bool, Refusal>
+    ensures { told_of result ≡ contains_any_rule set words.now start end }
 {
-    let number = check_range(set, words, start, end);
-    if number != 0 {
-        return Told { number, yes: false };
-    }
-    Told {
-        number: 0,
-        yes: some_other(words, start, end, 0),
-    }
+    set.check_range(words, start, end)?;
+    Ok(some_other(words, start, end, 0))
 }
 
 // Whether each position of the set is a member. Asks 1 to 3.
-pub fn is_full(set: FixedBitSet, words: &[u64]) -> Told
-    ensures { result ≡ is_full_rule set words.now }
+pub fn is_full(set: FixedBitSet, words: &[u64]) -> Result<bool, Refusal>
+    ensures { told_of result ≡ is_full_rule set words.now }
 {
-    let number = check(set, words);
-    if number != 0 {
-        return Told { number, yes: false };
-    }
-    Told {
-        number: 0,
-        yes: !some_other(words, 0, set.length, u64::MAX),
-    }
+    set.check(words)?;
+    Ok(!some_other(words, 0, set.length, u64::MAX))
 }
 
 // Whether the set has no member. Asks 1 to 3.
-pub fn is_clear(set: FixedBitSet, words: &[u64]) -> Told
-    ensures { result ≡ is_clear_rule set words.now }
+pub fn is_clear(set: FixedBitSet, words: &[u64]) -> Result<bool, Refusal>
+    ensures { told_of result ≡ is_clear_rule set words.now }
 {
-    let number = check(set, words);
-    if number != 0 {
-        return Told { number, yes: false };
-    }
-    Told {
-        number: 0,
-        yes: !some_other(words, 0, set.length, 0),
-    }
+    set.check(words)?;
+    Ok(!some_other(words, 0, set.length, 0))
 }

@@ -1,5 +1,6 @@
 use mathlib.Core.Path.{sym, ap, ◌∙◌}
-use Rattle.sets.proofs.OutcomeLaws.{given_no, given_yes}
+use Rattle.sets.proofs.OutcomeLaws.{given_yes}
+use Rattle.sets.proofs.RefusalLaws.{answer_refused}
 use mathlib.Core.Bool.{Bool, not}
 use native.Mathlib.Nat.{le_refl}
 use Rattle.sets.proofs.QuestionLaws.{valid}
@@ -7,15 +8,15 @@ use Rattle.sets.proofs.RangeQuestionLaws.{words_room}
 use Rattle.tests.proofs.RangeTestLaws.{all_is}
 use Rattle.tests.proofs.ranges.is_full.Goals as goal
 
-pub returns-then-number-ne0 : goal.returns-then-number-ne0
-returns-then-number-ne0 c = given_no _ _ c.check-number.ensures c.if-number-ne0.true
+pub returns-in_err-check : goal.returns-in_err-check
+returns-in_err-check c = answer_refused _ _ _ _ _ c.from_residual.ensures.1 c.in_err-check.ensures
 
 pub some_other-requires : goal.some_other-requires
-some_other-requires c = words_room _ _ (valid _ _ (sym c.check-number.ensures ∙ c.if-number-ne0.false))
+some_other-requires c = words_room _ _ (valid _ _ (sym c.in_ok-check.ensures))
 
 pub returns : goal.returns
 returns c =
     let a = c.args in
-    given_yes _ (sym c.if-number-ne0.false ∙ c.check-number.ensures)
+    given_yes _ (c.in_ok-check.ensures)
     (ap (λ (b : Bool). record { number = 0; yes = b })
     (ap not c.some_other.ensures ∙ all_is a.set a.words.now 0 a.set.length (le_refl a.set.length)))

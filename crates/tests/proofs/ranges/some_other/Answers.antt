@@ -25,9 +25,6 @@ between c =
 pub returns-then-masks-first : goal.returns-then-masks-first
 returns-then-masks-first c = sym (other-empty _ _ _ _ (rw c.by_shifts-masks.ensures at c.if-masks-first.true))
 
-pub offset_bounds-words-first : goal.offset_bounds-words-first
-offset_bounds-words-first c = rw c.by_shifts-masks.ensures (omega arith)
-
 pub bounds-words-first : goal.bounds-words-first
 bounds-words-first c =
     let met = c.by_shifts-masks.ensures in

@@ -1,17 +1,9 @@
 use mathlib.Core.Path.{◌≡◌, sym, ◌∙◌}
 use Prim.Native.Nat.{ℕ, ◌+◌, ◌-◌, min}
 use lib.ListN.{length, get_or}
-use Rattle.tests.proofs.ScanLaws.{scan_none, scan_at, more}
+use Rattle.tests.proofs.ScanLaws.{scan_none, scan_at}
 use native.Mathlib.Omega.{arith}
 use Rattle.tests.proofs.scans.first_other.Goals as goal
-
-pub loop-k-init : goal.loop-k-init
-loop-k-init c = (omega arith, omega arith, λ i a b. absurd (omega arith))
-
-pub loop-k-preserved : goal.loop-k-preserved
-loop-k-preserved c =
-    let inv = c.loop-k.invariant in
-    (omega arith, omega arith, more (λ (i : ℕ). get_or c.args.words.now i 0) _ _ _ inv.2 c.if-words-k.false)
 
 pub returns-then-stop-k : goal.returns-then-stop-k
 returns-then-stop-k c =
