@@ -5,17 +5,7 @@ ghost use Rattle.word_lists.specs.Parts.{list_part, part_of};
 pub fn same(a: &[u64], b: &[u64]) -> bool
     ensures { (result ≡ true → a.now ≡ b.now) × (a.now ≡ b.now → result ≡ true) }
 {
-    if a.len() != b.len() {
-        return false;
-    }
-    let mut k = 0;
-    while k < a.len() {
-        if a[k] != b[k] {
-            return false;
-        }
-        k += 1;
-    }
-    true
+    a == b
 }
 
 // The numbers start..end, none where the list does not have them.
