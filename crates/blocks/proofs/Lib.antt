@@ -1,2 +1,3 @@
 pub mod BlockLaws
 pub mod LoopLaws
+mod CopyLaws

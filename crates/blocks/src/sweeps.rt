@@ -2,13 +2,11 @@ ghost use Rattle.std.specs.Prelude.{◌≡◌, ℕ, min, length, get_or};
 ghost use Rattle.std.specs.Int.Bits.{bit_and, bit_xor};
 ghost use Rattle.blocks.specs.Sweeps.{swept};
 
-use crate::numbers::lesser;
-
 // Word k of a slice, 0 past its end. Asks nothing: nothing is refused.
 pub fn block(words: &[u64], k: usize) -> u64
     ensures { result ≡ get_or words.now k 0 }
 {
-    if k < words.len() { words[k] } else { 0 }
+    words.get(k).copied().unwrap_or(0)
 }
 
 // Each word k of first..end that the slice has becomes (word & keep) ^ flip: set, cleared, flipped or kept whole.
@@ -16,11 +14,8 @@ pub fn block(words: &[u64], k: usize) -> u64
 pub fn change_blocks(words: &mut [u64], first: usize, end: usize, keep: u64, flip: u64)
     ensures { words.new ≡ swept first end (λ (k w : ℕ). bit_xor (bit_and w keep) flip) words.old }
 {
-    let stop = lesser(end, words.len());
-    let mut k = first;
-    while k < stop {
+    for k in first..end.min(words.len()) {
         words[k] = (words[k] & keep) ^ flip;
-        k += 1;
     }
 }
 
@@ -28,10 +23,8 @@ pub fn change_blocks(words: &mut [u64], first: usize, end: usize, keep: u64, fli
 pub fn copy_blocks(words: &mut [u64], other: &[u64], first: usize, end: usize)
     ensures { words.new ≡ swept first (min end (length other.now)) (λ (k w : ℕ). get_or other.now k 0) words.old }
 {
-    let stop = lesser(lesser(end, other.len()), words.len());
-    let mut k = first;
-    while k < stop {
-        words[k] = other[k];
-        k += 1;
+    let stop = end.min(other.len()).min(words.len());
+    if first < stop {
+        words[first..stop].copy_from_slice(&other[first..stop]);
     }
 }

@@ -6,23 +6,18 @@ use native.Mathlib.Omega.{arith}
 use Rattle.blocks.proofs.sweeps.change_blocks.Goals as goal
 
 pub loop-k-init : goal.loop-k-init
-loop-k-init c = (omega arith, omega arith, stored-none _ _ _)
+loop-k-init c = (omega arith, stored-none _ _ _)
 
 pub loop-k-preserved : goal.loop-k-preserved
 loop-k-preserved c =
     let inv = c.loop-k.invariant in
     let a = c.args in (
       omega arith,
-      omega arith,
-      stored_more _ _ _ _ _ inv.2 _ inv.0 (omega arith)
-          (ap (λ (w : ℕ). bit_xor (bit_and w a.keep) a.flip) (stored_rest _ _ _ _ _ inv.2 _ (omega arith))),
+      stored_more _ _ _ _ _ inv.1 _ (omega arith) (omega arith)
+          (ap (λ (w : ℕ). bit_xor (bit_and w a.keep) a.flip) (stored_rest _ _ _ _ _ inv.1 _ (omega arith))),
     )
-
-pub shape_of-words : goal.shape_of-words
-shape_of-words c = c.loop-k.invariant.2.same
 
 pub returns : goal.returns
 returns c =
-    let inv = c.loop-k.invariant in
     let a = c.args in
-    stored-swept _ _ _ (λ (k w : ℕ). bit_xor (bit_and w a.keep) a.flip) _ _ inv.2 inv.0 (omega arith) (omega arith)
+    stored-swept _ _ _ (λ (k w : ℕ). bit_xor (bit_and w a.keep) a.flip) _ _ c.loop-k.invariant.1 (omega arith) (omega arith) (omega arith)
