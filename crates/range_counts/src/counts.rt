@@ -1,24 +1,21 @@
-ghost use Rattle.std.specs.Prelude.{◌&&◌, ◌≡◌, ℕ, ◌+◌, ◌-◌, ◌*◌, ◌≤◌, length};
+ghost use Rattle.std.specs.Prelude.{◌&&◌, ◌≡◌, ℕ, ◌*◌, ◌≤◌, length};
+ghost use Rattle.std.specs.List.{sum_by};
+ghost use Rattle.word_bits.specs.Digits.{digit};
 ghost use Rattle.word_bits.specs.Counts.{count};
 ghost use Rattle.masks.specs.Ranges.{covers};
 ghost use Rattle.sets.specs.Members.{bit_of};
+ghost use Rattle.sets.specs.Refusals.{counted_of};
 ghost use Rattle.tests.specs.Rules.{count_ones_rule, count_zeroes_rule};
 
 use masks::Masks;
-use sets::{Counted, FixedBitSet, check_range};
+use sets::{FixedBitSet, Refusal};
 
-// How many bits of the words first..end are set.
-fn ones_between(words: &[u64], first: usize, end: usize) -> usize
-    requires { (end ≤ length words.now) × (end ≤ 1024) }
-    ensures { result ≡ count ((end - first) * 64) (λ (j : ℕ). bit_of words.now (first * 64 + j)) }
+// How many bits of the words are set.
+fn ones_between(words: &[u64]) -> usize
+    requires { length words.now ≤ 1024 }
+    ensures { result ≡ sum_by (λ (w : ℕ). count 64 (digit w)) words.now }
 {
-    let mut sum: usize = 0;
-    let mut k = first;
-    while k < end {
-        sum += word_bits::count_ones(words[k]);
-        k += 1;
-    }
-    sum
+    words.iter().map(|word| word_bits::count_ones(*word)).sum()
 }
 
 // How many bits of the range are set.
@@ -36,34 +33,32 @@ fn ones_of(words: &[u64], start: usize, end: usize) -> usize
     if last <= first {
         return head;
     }
-    let middle = ones_between(words, first + 1, last);
+    let middle = ones_between(&words[first + 1..last]);
     head + middle + word_bits::count_ones(words[last] & masks.last_mask)
 }
 
 // How many positions of the range are members. Asks 1 to 3, then 5.
-pub fn count_ones(set: FixedBitSet, words: &[u64], start: usize, end: usize) -> Counted
-    ensures { result ≡ count_ones_rule set words.now start end }
+pub fn count_ones(
+    set: FixedBitSet,
+    words: &[u64],
+    start: usize,
+    end: usize,
+) -> Result<usize, Refusal>
+    ensures { counted_of result ≡ count_ones_rule set words.now start end }
 {
-    let number = check_range(set, words, start, end);
-    if number != 0 {
-        return Counted { number, count: 0 };
-    }
-    Counted {
-        number: 0,
-        count: ones_of(words, start, end),
-    }
+    set.check_range(words, start, end)?;
+    Ok(ones_of(words, start, end))
 }
 
 // How many positions of the range are no members. Asks 1 to 3, then 5.
-pub fn count_zeroes(set: FixedBitSet, words: &[u64], start: usize, end: usize) -> Counted
-    ensures { result ≡ count_zeroes_rule set words.now start end }
+pub fn count_zeroes(
+    set: FixedBitSet,
+    words: &[u64],
+    start: usize,
+    end: usize,
+) -> Result<usize, Refusal>
+    ensures { counted_of result ≡ count_zeroes_rule set words.now start end }
 {
-    let number = check_range(set, words, start, end);
-    if number != 0 {
-        return Counted { number, count: 0 };
-    }
-    Counted {
-        number: 0,
-        count: (end - start) - ones_of(words, start, end),
-    }
+    set.check_range(words, start, end)?;
+    Ok((end - start) - ones_of(words, start, end))
 }

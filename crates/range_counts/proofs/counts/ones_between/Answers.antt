@@ -1,36 +1,16 @@
-use mathlib.Core.Path.{◌≡◌, ap, ap₂, ◌∙◌}
-use Prim.Native.Nat.{ℕ, ◌-◌, ◌+◌, ◌*◌}
-use lib.ListN.{get_or}
+use Rattle.std.proofs.Common.{rules, ◌≡◌, ℕ, ◌≤◌, ◌-◌, ◌/◌, ◌^◌, arith}
+use Rattle.std.proofs.lemmas.Iterator.{YieldsList-from_slice}
+use Rattle.std.proofs.lemmas.Iterator.Adapters.{fits_from_length, at_most_from_yields_List}
 use Rattle.word_bits.specs.Digits.{digit}
+use Rattle.word_bits.specs.Counts.{count}
 use Rattle.word_bits.proofs.Ones.{count-le}
-use Rattle.sets.specs.Members.{bit_of}
-use Rattle.range_counts.proofs.RunLaws.{run, run_none, run_more, word_ones}
-use native.Mathlib.Omega.{arith}
 use Rattle.range_counts.proofs.counts.ones_between.Goals as goal
 
-pub loop-k-init : goal.loop-k-init
-loop-k-init c = (omega arith, omega arith, run_none (bit_of c.args.words.now) c.args.first)
+small : {r : ℕ} (w : ℕ) → r ≡ count 64 (digit w) → r ≤ (2 ^ 64 - 1) / 1024
+small w e = omega (arith, e, count-le 64 (digit w))
 
-pub overflow_add-sum : goal.overflow_add-sum
-overflow_add-sum c =
-    let inv = c.loop-k.invariant in
-    let a = c.args in
-    let n = (c.loop-k.k - a.first) * 64 in
-    omega (arith, inv.2, count-le n (λ j. bit_of a.words.now (a.first * 64 + j)), c.count_ones-sum.ensures, count-le 64 (digit (get_or a.words.now c.loop-k.k 0)))
-
-pub loop-k-preserved : goal.loop-k-preserved
-loop-k-preserved c =
-    let inv = c.loop-k.invariant in
-    let a = c.args in
-    let k = c.loop-k.k in (
-      omega arith,
-      omega arith,
-      ap₂ ◌+◌ inv.2 (c.count_ones-sum.ensures ∙ word_ones a.words.now k) ∙ run_more (bit_of a.words.now) a.first k inv.0,
-    )
-
-pub returns : goal.returns
-returns c =
-    let inv = c.loop-k.invariant in
-    let a = c.args in
-    let e : c.loop-k.k - a.first ≡ a.end - a.first = omega arith in
-    inv.2 ∙ ap (λ (n : ℕ). run (bit_of a.words.now) (a.first * 64) (n * 64)) e
+-- 1024 words at the most, of 64 bits each
+pub sum-requires-clause-fits : goal.sum-requires-clause-fits
+sum-requires-clause-fits c =
+    fits_from_length _ _ 1024 (2 ^ 64) (at_most_from_yields_List (YieldsList-from_slice c.args.words.now cc) c.requires) c.map.ensures.closure (omega arith)
+    (λ x r q k. search (rules, small))

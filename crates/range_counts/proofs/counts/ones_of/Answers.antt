@@ -1,11 +1,13 @@
 use mathlib.Core.Bool.{Bool}
 use mathlib.Core.Path.{◌≡◌, ap, ap₂, ◌∙◌}
-use Prim.Native.Nat.{ℕ, ◌+◌, ◌-◌}
+use Prim.Native.Nat.{ℕ, ◌+◌, ◌-◌, ◌/◌}
+use Rattle.std.proofs.Common.{length-take, length-drop}
 use Rattle.word_bits.specs.Counts.{count}
 use Rattle.word_bits.proofs.Ones.{count-le}
 use Rattle.masks.specs.Ranges.{end_block}
 use Rattle.sets.specs.Members.{bit_of}
 use Rattle.range_counts.proofs.CountLaws.{ones_at, ones_empty, ones_one, ones_three}
+use Rattle.range_counts.proofs.RunLaws.{words_between}
 use Rattle.tests.proofs.PartLaws.{meets, in_range}
 use native.Mathlib.Omega.{arith}
 use Rattle.range_counts.proofs.counts.ones_of.Goals as goal
@@ -25,8 +27,10 @@ known c =
     let a = c.args in
     let last = end_block a.start a.end - 1 in
     let l = rw met at c.if-last-first.false in
+    let m = meets _ _ (rw met at c.if-masks-first.false) in
+    let middle = words_between a.words.now (a.start / 64 + 1) last (omega arith) (omega (arith, m.tight)) in
     ap (λ (n : ℕ). n + ones_at a.start a.end a.words.now last)
-    (ap₂ ◌+◌ (rw met at c.count_ones-head.ensures) (rw met at c.ones_between-middle.ensures))
+    (ap₂ ◌+◌ (rw met at c.count_ones-head.ensures) (rw met at c.ones_between-middle.ensures ∙ middle))
     ∙ ones_three a.start a.end a.words.now last (omega arith) l
 
 abbrev counted_2 : After-count_ones → ℕ → Bool
@@ -41,8 +45,10 @@ known_2 c =
     let a = c.args in
     let last = end_block a.start a.end - 1 in
     let l = rw met at c.if-last-first.false in
+    let m = meets _ _ (rw met at c.if-masks-first.false) in
+    let middle = words_between a.words.now (a.start / 64 + 1) last (omega arith) (omega (arith, m.tight)) in
     ap (λ (n : ℕ). n + ones_at a.start a.end a.words.now last)
-    (ap₂ ◌+◌ (rw met at c.count_ones-head.ensures) (rw met at c.ones_between-middle.ensures))
+    (ap₂ ◌+◌ (rw met at c.count_ones-head.ensures) (rw met at c.ones_between-middle.ensures ∙ middle))
     ∙ ones_three a.start a.end a.words.now last (omega arith) l
 
 whole : (c : After-count_ones) → c.count_ones-head.result + c.ones_between-middle.result + c.count_ones.result
@@ -52,9 +58,6 @@ whole c =
 
 pub returns-then-masks-first : goal.returns-then-masks-first
 returns-then-masks-first c = ones_empty _ _ _ (rw c.by_shifts-masks.ensures at c.if-masks-first.true)
-
-pub offset_bounds-words-first : goal.offset_bounds-words-first
-offset_bounds-words-first c = rw c.by_shifts-masks.ensures (omega arith)
 
 pub bounds-words-first : goal.bounds-words-first
 bounds-words-first c =
@@ -67,23 +70,20 @@ returns-then-last-first c =
     let met = c.by_shifts-masks.ensures in
     (rw met at c.count_ones-head.ensures) ∙ ones_one _ _ _ (rw met at c.if-masks-first.false) (rw met at c.if-last-first.true)
 
-pub overflow_add-first : goal.overflow_add-first
-overflow_add-first c = rw c.by_shifts-masks.ensures (omega arith)
-
 pub ones_between-middle-requires : goal.ones_between-middle-requires
 ones_between-middle-requires c =
     let met = c.by_shifts-masks.ensures in
     let m = meets _ _ (rw met at c.if-masks-first.false) in
-    rw met (omega (arith, m.tight), omega (arith, m.tight))
+    rw (met, length-take, length-drop) (omega (arith, m.tight))
 
-pub overflow_add-result : goal.overflow_add-result
-overflow_add-result c = omega (arith, known (goal.at.overflow_add-result c).After-ones_between-middle, count-le c.args.end (counted (goal.at.overflow_add-result c).After-ones_between-middle))
-
-pub offset_bounds-words-last : goal.offset_bounds-words-last
-offset_bounds-words-last c =
+pub slice_bounds-ones_between-end : goal.slice_bounds-ones_between-end
+slice_bounds-ones_between-end c =
     let met = c.by_shifts-masks.ensures in
     let m = meets _ _ (rw met at c.if-masks-first.false) in
     rw met (omega (arith, m.tight))
+
+pub overflow_add-result : goal.overflow_add-result
+overflow_add-result c = omega (arith, known (goal.at.overflow_add-result c).After-ones_between-middle, count-le c.args.end (counted (goal.at.overflow_add-result c).After-ones_between-middle))
 
 pub bounds-words-last : goal.bounds-words-last
 bounds-words-last c =
