@@ -12,7 +12,7 @@ returns c =
     let x : ℕ = c.args.word in
     let pos : 0 < x = omega arith in
     let fits : x < 2 ^ 64 = c.ranges.word.fits in
-    let negation : c.wrapping_sub_u64.result ≡ 2 ^ 64 - x = omega arith in
+    let negation : c.wrapping_neg.result ≡ 2 ^ 64 - x = omega (arith, c.wrapping_neg.ensures) in
     rw (ne_eqb x 0 c.if-word-eq0.false)
     (ap₂ (λ (p r : ℕ). record { number = 0; position = p; rest = r })
     (c.trailing_zeros.ensures ∙ ap (λ (y : ℕ). zeros_below 64 (digit (bit_and x y))) negation ∙ negation_position 64 x pos fits)
