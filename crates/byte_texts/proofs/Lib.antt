@@ -2,3 +2,4 @@ pub mod TextLaws
 pub mod WriteLaws
 pub mod DecimalLaws
 pub mod Examples
+pub mod GrowthLaws

@@ -16,7 +16,7 @@ pub sets_out : (vs l : List ℕ) (i : ℕ) → length l ≤ i → sets l i vs �
 sets_out [] l i h = refl
 sets_out (v ∷ vs) l i h = ap (λ (r : List ℕ). sets r (suc i) vs) (set_out l i v h) ∙ sets_out vs l (suc i) (omega arith)
 
-sets_append : (xs ys l : List ℕ) (i : ℕ) → sets (sets l i xs) (i + length xs) ys ≡ sets l i (xs ++ ys)
+pub sets_append : (xs ys l : List ℕ) (i : ℕ) → sets (sets l i xs) (i + length xs) ys ≡ sets l i (xs ++ ys)
 sets_append [] ys l i = ap (λ (k : ℕ). sets l k ys) (add-zero i)
 sets_append (x ∷ xs) ys l i =
     let e : i + suc (length xs) ≡ suc i + length xs = omega arith in

@@ -1,5 +1,5 @@
 -- Texts that are written one after the other into a lent buffer: bytes are numbers.
-use Rattle.std.specs.Prelude.{Bool, cond, ◌||◌, List, [], ◌∷◌, ◌++◌, map, ℕ, zero, suc, ◌+◌, ◌-◌, ◌/◌, ◌%◌, min, eqb, leb, ltb, length, take, drop}
+use Rattle.std.specs.Prelude.{cond, ◌||◌, List, [], ◌∷◌, ◌++◌, map, ℕ, zero, suc, ◌+◌, ◌-◌, ◌/◌, ◌%◌, min, eqb, leb, ltb, length, take, drop}
 use Rattle.std.proofs.lemmas.List.Edits.{sets}
 
 -- where a text ends, and the buffer with it
@@ -23,10 +23,6 @@ decimal n = decimal_of 20 n
 -- a byte as it is shown: a control byte is a question mark
 unfoldable pub visible : ℕ → ℕ
 visible b = cond (ltb b 32 || eqb b 127) 63 b
-
--- a byte as it is, or as it is shown
-unfoldable pub byte_as : Bool → ℕ → ℕ
-byte_as shown b = cond shown (visible b) b
 
 unfoldable pub dots : List ℕ
 dots = 46 ∷ 46 ∷ 46 ∷ []

@@ -3,4 +3,4 @@
 
 mod texts;
 
-pub use texts::{append, append_decimal, append_name, append_text};
+pub use texts::{Text, append, append_decimal, append_name, append_text};

@@ -1,76 +1,123 @@
 ghost use Rattle.std.specs.Prelude.{◌≡◌, map};
-ghost use Rattle.byte_texts.specs.Texts.{written, visible, byte_as, decimal, shown_text, shown_name};
+ghost use Rattle.byte_texts.specs.Texts.{written, visible, decimal, shown_text, shown_name};
+ghost use Rattle.byte_texts.specs.Growth.{Appended};
 
-use blocks::lesser;
+// A text in a lent buffer, and where it ends. What the buffer has no room for is left out.
+#[derive(Drop)]
+pub struct Text<'a> {
+    pub out: &'a mut [u8],
+    pub end: usize,
+}
 
 // A control byte is shown as a question mark.
+#[tactic(auto, unfolding(crate::specs::Texts::visible))]
 fn visible_byte(byte: u8) -> u8
     ensures { result ≡ visible byte }
 {
-    if byte < 32 {
-        return 63;
-    }
-    if byte == 127 { 63 } else { byte }
+    if byte < 32 || byte == 127 { b'?' } else { byte }
 }
 
-// A byte as it is, or as it is shown.
-fn byte_as(byte: u8, shown: bool) -> u8
-    ensures { result ≡ byte_as shown byte }
+fn show(bytes: &mut [u8])
+    ensures { bytes.new ≡ map visible bytes.old }
 {
-    if shown { visible_byte(byte) } else { byte }
+    for byte in bytes.iter_mut() {
+        *byte = visible_byte(*byte);
+    }
 }
 
-// The bytes as they are, or as they are shown, from `at` on. Gives where they end.
-fn append_bytes(out: &mut [u8], at: usize, text: &[u8], shown: bool) -> usize
-    ensures { record { end = result; out = out.new } ≡ written out.old at (map (byte_as shown) text.now) }
-{
-    let size = out.len();
-    if size <= at {
-        return size;
+impl<'a> Text<'a> {
+    pub fn new(out: &'a mut [u8]) -> Text<'a>
+        ensures same_buffer { result.out.ghost_name ≡ out.entry.ghost_name }
+        ensures same_bytes { result.out.now ≡ out.old }
+        ensures empty { result.end ≡ 0 }
+    {
+        Text { out, end: 0 }
     }
-    let count = lesser(text.len(), size - at);
-    let mut k = 0;
-    while k < count {
-        out[at + k] = byte_as(text[k], shown);
-        k += 1;
+
+    // The bytes as they are.
+    pub fn append(&mut self, text: &[u8])
+        ensures { Appended self.old self.new text.now }
+    {
+        let size = self.out.len();
+        let start = self.end.min(size);
+        let end = start + text.len().min(size - start);
+        self.out[start..end].copy_from_slice(&text[..end - start]);
+        self.end = end;
     }
-    at + count
+
+    // The bytes as they are shown.
+    fn append_visible(&mut self, text: &[u8])
+        ensures { Appended self.old self.new (map visible text.now) }
+    {
+        let start = self.end.min(self.out.len());
+        self.append(text);
+        show(&mut self.out[start..self.end]);
+    }
+
+    // A number in decimal.
+    pub fn append_decimal(&mut self, n: u64)
+        ensures { Appended self.old self.new (decimal n) }
+    {
+        let mut digits = [0u8; 20];
+        let count = io::decimal(n, &mut digits);
+        self.append(&digits[..count]);
+    }
+
+    // A text as it is shown.
+    pub fn append_text(&mut self, text: &[u8])
+        ensures { Appended self.old self.new (shown_text text.now) }
+    {
+        if text.len() <= 40 {
+            return self.append_visible(text);
+        }
+        self.append_visible(&text[..40]);
+        self.append(b"...");
+    }
+
+    // A name as it is shown.
+    pub fn append_name(&mut self, name: &[u8])
+        ensures { Appended self.old self.new (shown_name name.now) }
+    {
+        if name.len() <= 40 {
+            return self.append_visible(name);
+        }
+        self.append(b"...");
+        self.append_visible(&name[name.len() - 40..]);
+    }
 }
 
 // The bytes as they are, from `at` on. Gives where they end.
 pub fn append(out: &mut [u8], at: usize, text: &[u8]) -> usize
     ensures { record { end = result; out = out.new } ≡ written out.old at text.now }
 {
-    append_bytes(out, at, text, false)
+    let mut written = Text { out, end: at };
+    written.append(text);
+    written.end
 }
 
 // A number in decimal.
 pub fn append_decimal(out: &mut [u8], at: usize, n: u64) -> usize
     ensures { record { end = result; out = out.new } ≡ written out.old at (decimal n) }
 {
-    let mut digits = [0u8; 20];
-    let count = io::decimal(n, &mut digits);
-    append(out, at, &digits[..count])
+    let mut written = Text { out, end: at };
+    written.append_decimal(n);
+    written.end
 }
 
 // A text as it is shown.
 pub fn append_text(out: &mut [u8], at: usize, text: &[u8]) -> usize
     ensures { record { end = result; out = out.new } ≡ written out.old at (shown_text text.now) }
 {
-    if text.len() <= 40 {
-        return append_bytes(out, at, text, true);
-    }
-    let end = append_bytes(out, at, &text[..40], true);
-    append(out, end, b"...")
+    let mut written = Text { out, end: at };
+    written.append_text(text);
+    written.end
 }
 
 // A name as it is shown.
 pub fn append_name(out: &mut [u8], at: usize, name: &[u8]) -> usize
     ensures { record { end = result; out = out.new } ≡ written out.old at (shown_name name.now) }
 {
-    if name.len() <= 40 {
-        return append_bytes(out, at, name, true);
-    }
-    let end = append(out, at, b"...");
-    append_bytes(out, end, &name[name.len() - 40..], true)
+    let mut written = Text { out, end: at };
+    written.append_name(name);
+    written.end
 }
