@@ -1,23 +1,16 @@
-ghost use Rattle.std.specs.Prelude.{◌≡◌, ◌-◌};
+ghost use Rattle.std.specs.Prelude.{◌≡◌, ℕ, ◌/◌, ◌≤◌};
 ghost use Rattle.masks.specs.RangeMasks.{range_mask, masks_of};
 
 use word_bits::low_mask;
 
 // The words that a range meets are first_block..end_block. The mask of each word strictly between the first and the last is all ones.
 #[repr(C)]
-#[derive(Clone, Copy)]
+#[derive(Clone, Copy, Debug, PartialEq, Eq)]
 pub struct Masks {
     pub first_block: usize,
     pub end_block: usize,
     pub first_mask: u64,
     pub last_mask: u64,
-}
-
-// How far p stands above base: 0 where it does not.
-fn above(p: usize, base: usize) -> usize
-    ensures { result ≡ p - base }
-{
-    if base < p { p - base } else { 0 }
 }
 
 // The mask of word k, whatever the range and the word: 0 where the range does not meet it.
@@ -28,21 +21,28 @@ pub fn range_mask(start: usize, end: usize, word: usize) -> u64
         return 0;
     }
     let base = word * 64;
-    low_mask(above(end, base)) & !low_mask(above(start, base))
+    low_mask(end.saturating_sub(base)) & !low_mask(start.saturating_sub(base))
 }
 
 impl Masks {
+    // Those of a range that covers no position.
+    fn none(first: usize) -> Masks
+        ensures { (start end : ℕ) → end ≤ start → first ≡ start / 64 → result ≡ masks_of start end }
+    {
+        Masks {
+            first_block: first,
+            end_block: first,
+            first_mask: 0,
+            last_mask: 0,
+        }
+    }
+
     pub fn new(start: usize, end: usize) -> Masks
         ensures { result ≡ masks_of start end }
     {
         let first = start / 64;
         if end <= start {
-            return Masks {
-                first_block: first,
-                end_block: first,
-                first_mask: 0,
-                last_mask: 0,
-            };
+            return Masks::none(first);
         }
         let last = (end - 1) / 64;
         Masks {
@@ -59,12 +59,7 @@ impl Masks {
     {
         let first = start / 64;
         if end <= start {
-            return Masks {
-                first_block: first,
-                end_block: first,
-                first_mask: 0,
-                last_mask: 0,
-            };
+            return Masks::none(first);
         }
         let top = end - 1;
         let last = top / 64;

@@ -12,6 +12,6 @@ returns-then-word c = sym (mask_after c.args.start c.args.end c.args.word (omega
 pub returns : goal.returns
 returns c =
     ap₂ (λ (e s : ℕ). bit_and e ((2 ^ 64 - 1) - s))
-    (c.low_mask.ensures ∙ ap low_mask c.above.ensures)
-    (c.low_mask-2.ensures ∙ ap low_mask c.above-2.ensures)
+    (c.low_mask.ensures ∙ ap low_mask c.saturating_sub.ensures)
+    (c.low_mask-2.ensures ∙ ap low_mask c.saturating_sub-2.ensures)
     ∙ mask_is _ _ _
