@@ -1,13 +1,14 @@
 -- Two words joined digit by digit. Assumes nothing.
-use mathlib.Core.Path.{◌≡◌, refl, sym, ap, ap₂, ◌∙◌}
+use mathlib.Core.Path.{◌≡◌, refl, sym, ap, ◌∙◌}
 use mathlib.Core.Bool.{Bool, true, false, cond, ◌&&◌, xor, and-false, and-true}
 use Prim.Native.Nat.{ℕ, ◌-◌, ◌^◌, ◌<◌}
-use lib.Bits.{bit_and, bit_xor, and_lt, xor_lt}
+use native.Mathlib.Nat.{lt_of_le_of_lt}
+use lib.Bits.{bit_and, bit_or, bit_xor, and_lt, or_lt, xor_lt, and_le_l}
 use lib.Dec.{lit<}
 use Rattle.word_bits.specs.Digits.{digit}
 use Rattle.word_bits.proofs.Digits.{digit-number, number_is, number_lt, digit_of_zero}
-use Rattle.word_bits.proofs.Operations.{digit_and, digit-xor, digit_full}
-use Rattle.operations.specs.Operations.{joined, joined_word, masked_join, joined_by}
+use Rattle.word_bits.proofs.Operations.{digit_and, digit_or, digit-xor, digit_not}
+use Rattle.operations.specs.Operations.{joined, joined_word}
 use Rattle.operations.specs.declared.operation.Operation.{Operation}
 use Rattle.operations.specs.declared.operation.Operation.TheVariants.{Union, Intersection, Difference, SymmetricDifference}
 
@@ -24,62 +25,22 @@ module _ (op : Operation) (a b : ℕ) where
   unfolding joined_word
   joined_is x h same = number_is 64 x (λ j. joined op (digit a j) (digit b j)) h same
 
--- ---- by masks
+-- ---- by the operations on words
 
--- all ones or none
-abbrev full : Bool → ℕ
-full t = cond t (2 ^ 64 - 1) 0
+module _ (a b : ℕ) (ha : a < 2 ^ 64) (hb : b < 2 ^ 64) where
+  pub union_word : bit_or a b ≡ joined_word Union a b
+  union_word = joined_is Union a b (bit_or a b) (or_lt 64 a b ha hb) (λ j l. digit_or a b j)
 
-full_lt : (t : Bool) → full t < 2 ^ 64
-full_lt true = lit< tt
-full_lt false = lit< tt
+  pub intersection_word : bit_and a b ≡ joined_word Intersection a b
+  intersection_word = joined_is Intersection a b (bit_and a b) (and_lt 64 a b ha hb) (λ j l. digit_and a b j)
 
-full_digit : (t : Bool) (j : ℕ) → j < 64 → digit (full t) j ≡ t
-full_digit true j h = digit_full j h
-full_digit false j h = digit_of_zero j
+  pub difference_word : bit_and a (2 ^ 64 - 1 - b) ≡ joined_word Difference a b
+  difference_word =
+      joined_is Difference a b (bit_and a (2 ^ 64 - 1 - b)) (lt_of_le_of_lt (and_le_l a (2 ^ 64 - 1 - b)) ha)
+      (λ j l. digit_and a (2 ^ 64 - 1 - b) j ∙ ap (λ (t : Bool). digit a j && t) (digit_not 64 b j hb l))
 
--- the first word, the second and both, each taken or left out
-module _ (first second both : Bool) (a b : ℕ) where
-  masked_lt : a < 2 ^ 64 → b < 2 ^ 64 → masked_join (full first) (full second) (full both) a b < 2 ^ 64
-  masked_lt ha hb =
-      xor_lt 64 (bit_xor (bit_and a (full first)) (bit_and b (full second))) (bit_and (bit_and a b) (full both))
-      (xor_lt 64 (bit_and a (full first)) (bit_and b (full second)) (and_lt 64 a (full first) ha (full_lt first)) (and_lt 64 b (full second) hb (full_lt second)))
-      (and_lt 64 (bit_and a b) (full both) (and_lt 64 a b ha hb) (full_lt both))
-
-  masked_digit : (j : ℕ) → j < 64
-      → digit (masked_join (full first) (full second) (full both) a b) j ≡ xor (xor (digit a j && first) (digit b j && second)) ((digit a j && digit b j) && both)
-  masked_digit j l =
-      digit-xor (bit_xor (bit_and a (full first)) (bit_and b (full second))) (bit_and (bit_and a b) (full both)) j
-      ∙ ap₂ xor (digit-xor (bit_and a (full first)) (bit_and b (full second)) j ∙ ap₂ xor (one a first) (one b second))
-      (one (bit_and a b) both ∙ ap (λ (t : Bool). t && both) (digit_and a b j))
-    where
-      one : (x : ℕ) (t : Bool) → digit (bit_and x (full t)) j ≡ (digit x j && t)
-      one x t = digit_and x (full t) j ∙ ap (λ (s : Bool). digit x j && s) (full_digit t j l)
-
--- two tables of two bits are one where their four rows are
-four : (f g : Bool → Bool → Bool) → f true true ≡ g true true → f true false ≡ g true false → f false true ≡ g false true → f false false ≡ g false false
-    → (p q : Bool) → f p q ≡ g p q
-four f g both tf ft ff true true = both
-four f g both tf ft ff true false = tf
-four f g both tf ft ff false true = ft
-four f g both tf ft ff false false = ff
-
--- the masks of an operation join as it does
-pub word_by : (op : Operation) (a b : ℕ) → a < 2 ^ 64 → b < 2 ^ 64 → joined_by op a b ≡ joined_word op a b
-unfolding xor
-word_by op a b ha hb = go op
-  where
-    by : (o : Operation) (first second both : Bool) → ((p q : Bool) → xor (xor (p && first) (q && second)) ((p && q) && both) ≡ joined o p q)
-        → masked_join (full first) (full second) (full both) a b ≡ joined_word o a b
-    by o first second both same =
-        joined_is o a b (masked_join (full first) (full second) (full both) a b) (masked_lt first second both a b ha hb)
-        (λ j l. masked_digit first second both a b j l ∙ same (digit a j) (digit b j))
-
-    go : (o : Operation) → joined_by o a b ≡ joined_word o a b
-    go Union = by Union true true true (four _ _ refl refl refl refl)
-    go Intersection = by Intersection false false true (four _ _ refl refl refl refl)
-    go Difference = by Difference true false true (four _ _ refl refl refl refl)
-    go SymmetricDifference = by SymmetricDifference true true false (four _ _ refl refl refl refl)
+  pub symmetric_difference_word : bit_xor a b ≡ joined_word SymmetricDifference a b
+  symmetric_difference_word = joined_is SymmetricDifference a b (bit_xor a b) (xor_lt 64 a b ha hb) (λ j l. digit-xor a b j)
 
 -- ---- with nothing on one side
 

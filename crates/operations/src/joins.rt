@@ -1,22 +1,17 @@
 ghost use Rattle.std.specs.Prelude.{◌≡◌, ℕ, min, length, get_or};
 ghost use Rattle.blocks.specs.Sweeps.{swept};
-ghost use Rattle.operations.specs.Operations.{joined_word, masked_join};
+ghost use Rattle.operations.specs.Operations.{joined_word, Makes};
 
 use crate::operation::Operation;
-use blocks::{change_blocks, copy_blocks, lesser};
+use blocks::{change_blocks, copy_blocks};
 
-// Every operation on two bits is an exclusive or of the first, the second and both, each taken or left out:
-// the masks are all ones or 0, so that one loop with no branch serves the four.
-fn join_masked(words: &mut [u64], other: &[u64], end: usize, first: u64, second: u64, both: u64)
-    ensures { words.new ≡ swept 0 (min end (length other.now)) (λ (k w : ℕ). masked_join first second both w (get_or other.now k 0)) words.old }
+// The words below `end` that both slices have become what `word` makes of the two: the loop of the four operations.
+fn join<F: Fn(u64, u64) -> u64>(words: &mut [u64], other: &[u64], end: usize, word: F)
+    requires { F.IsAlwaysCallable word }
+    ensures { (op : ℕ → ℕ → ℕ) → Makes (F.post word) op → words.new ≡ swept 0 (min end (length other.now)) (λ (k w : ℕ). op w (get_or other.now k 0)) words.old }
 {
-    let stop = lesser(lesser(end, other.len()), words.len());
-    let mut k = 0;
-    while k < stop {
-        let a = words[k];
-        let b = other[k];
-        words[k] = ((a & first) ^ (b & second)) ^ ((a & b) & both);
-        k += 1;
+    for k in 0..end.min(other.len()).min(words.len()) {
+        words[k] = word(words[k], other[k]);
     }
 }
 
@@ -25,10 +20,10 @@ pub fn join_common(words: &mut [u64], other: &[u64], end: usize, operation: Oper
     ensures { words.new ≡ swept 0 (min end (length other.now)) (λ (k w : ℕ). joined_word operation w (get_or other.now k 0)) words.old }
 {
     match operation {
-        Operation::Union => join_masked(words, other, end, u64::MAX, u64::MAX, u64::MAX),
-        Operation::Intersection => join_masked(words, other, end, 0, 0, u64::MAX),
-        Operation::Difference => join_masked(words, other, end, u64::MAX, 0, u64::MAX),
-        Operation::SymmetricDifference => join_masked(words, other, end, u64::MAX, u64::MAX, 0),
+        Operation::Union => join(words, other, end, |a, b| a | b),
+        Operation::Intersection => join(words, other, end, |a, b| a & b),
+        Operation::Difference => join(words, other, end, |a, b| a & !b),
+        Operation::SymmetricDifference => join(words, other, end, |a, b| a ^ b),
     }
 }
 
@@ -54,7 +49,7 @@ pub fn join_second_alone(
 )
     ensures { words.new ≡ swept first (min end (length other.now)) (λ (k w : ℕ). joined_word operation 0 (get_or other.now k 0)) words.old }
 {
-    let stop = lesser(end, other.len());
+    let stop = end.min(other.len());
     match operation {
         Operation::Union => copy_blocks(words, other, first, end),
         Operation::Intersection => change_blocks(words, first, stop, 0, 0),

@@ -13,11 +13,11 @@ returns-in-Union c =
 
 pub returns-in-Intersection : goal.returns-in-Intersection
 returns-in-Intersection c =
-    c.change_blocks.ensures ∙ rw c.lesser-stop.ensures (second_ends c.in-Intersection.is refl _ _ _ (others (goal.at.returns-in-Intersection c).After-shared_slice_known-1))
+    c.change_blocks.ensures ∙ rw c.min-stop.ensures (second_ends c.in-Intersection.is refl _ _ _ (others (goal.at.returns-in-Intersection c).After-shared_slice_known-1))
 
 pub returns-in-Difference : goal.returns-in-Difference
 returns-in-Difference c =
-    c.change_blocks-in-Difference.ensures ∙ rw c.lesser-stop.ensures (second_ends c.in-Difference.is refl _ _ _ (others (goal.at.returns-in-Difference c).After-shared_slice_known-1))
+    c.change_blocks-in-Difference.ensures ∙ rw c.min-stop.ensures (second_ends c.in-Difference.is refl _ _ _ (others (goal.at.returns-in-Difference c).After-shared_slice_known-1))
 
 pub returns-in-SymmetricDifference : goal.returns-in-SymmetricDifference
 unfolding xor
