@@ -45,9 +45,9 @@ module _ (out : List ℕ) (at : ℕ) where
       ap (λ (k : ℕ). record { end = k; out = out }) e
 
   -- a text behind a text is their join
-  pub written-more : (x y : List ℕ) → written (written out at x).out (written out at x).end y ≡ written out at (x ++ y)
+  pub written_more : (x y : List ℕ) → written (written out at x).out (written out at x).end y ≡ written out at (x ++ y)
   unfolding written
-  written-more x y =
+  written_more x y =
       let n : length (sets out at x) ≡ length out = length-sets out at x in
       let e : min (length (sets out at x)) (min (length out) (at + length x) + length y) ≡ min (length out) (at + length (x ++ y)) = omega (arith, length-append x y) in
       ap₂ (λ (k : ℕ) (r : List ℕ). record { end = k; out = r }) e
@@ -55,7 +55,7 @@ module _ (out : List ℕ) (at : ℕ) where
 
   -- the same of two calls in a row
   pub written_then : (x y : List ℕ) {one two : Written} → one ≡ written out at x → two ≡ written one.out one.end y → two ≡ written out at (x ++ y)
-  written_then x y e f = f ∙ ap (λ (w : Written). written w.out w.end y) e ∙ written-more x y
+  written_then x y e f = f ∙ ap (λ (w : Written). written w.out w.end y) e ∙ written_more x y
 
   module _ (text : List ℕ) where
     pub written-length : length (written out at text).out ≡ length out
