@@ -10,7 +10,7 @@ use Rattle.word_bits.proofs.Ends.{below_lt, below_no, below_yes, above_lt, above
 
 -- ---- a word x cut to g: the digits that `keep` says
 
-both_true : (a b : Bool) → (a && b) ≡ true → (a ≡ true) × (b ≡ true)
+pub both_true : (a b : Bool) → (a && b) ≡ true → (a ≡ true) × (b ≡ true)
 both_true true b e = (refl, e)
 both_true false b e = absurd (false≢true e)
 

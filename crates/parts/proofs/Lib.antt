@@ -1,4 +1,5 @@
 pub mod PartLaws
 pub mod SelectLaws
 mod CutWords
-pub mod WordSearch
+mod WordSearch
+mod SelectedEnds

@@ -2,15 +2,18 @@
 use mathlib.Core.Path.{◌≡◌, refl, sym, ap, ap₂, ◌∙◌}
 use mathlib.Core.Bool.{Bool, true, false, cond, ◌&&◌}
 use mathlib.Core.Logic.{◌⊎◌, inl, inr}
-use Prim.Native.Nat.{ℕ, zero, suc, ◌+◌, ◌-◌, ◌≤◌, ◌<◌, max}
+use Prim.Native.Nat.{ℕ, zero, suc, ◌+◌, ◌-◌, ◌≤◌, ◌<◌}
 use native.Mathlib.Nat.{le_refl, add-sub_of_le}
 use native.Mathlib.Omega.{arith}
-use borrow.Author.Tests.{lt-ltb, le-ltb}
+use borrow.Author.Tests.{lt-ltb, le-ltb, ltb-true}
 use lib.Dec.{ltb}
 use Rattle.word_bits.specs.Counts.{zeros_below, zeros_above}
 use Rattle.word_bits.proofs.Ends.{below_at, below_no, below_none, below_yes, above_at, above_no, above_none, above_yes}
 use Rattle.word_bits.proofs.Order.{lt-or-le}
 use Rattle.std.specs.Prelude.{Some, None}
+use Rattle.std.proofs.lemmas.Option.{cond_some}
+use Rattle.sets.specs.Outcomes.{place}
+use Rattle.parts.proofs.CutWords.{both_true}
 use Rattle.parts.specs.Helpers.{top_of, next_from, bottom_of, prev_from}
 use Rattle.parts.specs.Steps.{taken, ahead, behind, front, back, step}
 use Rattle.parts.specs.declared.records.End.{End}
@@ -57,9 +60,9 @@ module _ (has : ℕ → Bool) (part : Part) where
         (lt-ltb (behind has part) (part.high - part.low) (omega (arith, z)))
         ∙ ap (λ (x : ℕ). record { at = Some x; part = record { low = part.low; high = x } }) e
 
--- ---- a step by what a search found: a position, or one from high up for none; one above a position, or a number up to low for none
+-- ---- a step by what a search found
 
-module _ (has : ℕ → Bool) (part : Part) (r : ℕ) where
+module _ (has : ℕ → Bool) (part : Part) where
   abbrev top : ℕ
   top = top_of part.low part.high
 
@@ -72,30 +75,22 @@ module _ (has : ℕ → Bool) (part : Part) (r : ℕ) where
   passed_up : (q : ℕ) → part.low ≤ q → q < part.low + steps_up → has q ≡ false
   passed_up q a b = ap has (sym (add-sub_of_le a)) ∙ below_no (top - part.low) up (q - part.low) (omega arith)
 
-  module _ (e : r ≡ next_from has part.low part.high) where
-    next_found : steps_up < top - part.low → r ≡ part.low + steps_up
-    unfolding next_from
-    next_found l = e ∙ ap (λ (t : Bool). cond t (part.low + steps_up) (max part.low part.high)) (lt-ltb steps_up (top - part.low) l)
+  pub front-found : (r : ℕ) → next_from has part.low part.high ≡ Some r → r < part.high → record { at = Some r; part = record { low = r + 1; high = part.high } } ≡ front has part
+  unfolding next_from
+  front-found r e l =
+      let q = cond_some (ltb steps_up (top - part.low)) (part.low + steps_up) r e in
+      let at = q.1 in
+      sym (front_at has part r (omega (arith, at)) l (ap has (sym at) ∙ below_yes (top - part.low) up (ltb-true steps_up (top - part.low) q.0)) (λ q a b. passed_up q a (omega (arith, at))))
 
-    next_lacks : top - part.low ≤ steps_up → r ≡ max part.low part.high
-    unfolding next_from
-    next_lacks g = e ∙ ap (λ (t : Bool). cond t (part.low + steps_up) (max part.low part.high)) (le-ltb steps_up (top - part.low) g)
-
-    pub front-found : r < part.high → record { at = Some r; part = record { low = r + 1; high = part.high } } ≡ front has part
-    front-found l = go (lt-or-le steps_up (top - part.low))
-      where
-        go : (steps_up < top - part.low) ⊎ (top - part.low ≤ steps_up) → record { at = Some r; part = record { low = r + 1; high = part.high } } ≡ front has part
-        go (inl i) =
-            let at = next_found i in
-            sym (front_at has part r (omega arith) l (ap has at ∙ below_yes (top - part.low) up i) (λ q a b. passed_up q a (omega arith)))
-        go (inr g) = absurd (omega (arith, next_lacks g))
-
-    pub front_lacks : part.high ≤ r → record { at = None; part = part } ≡ front has part
-    front_lacks h = go (lt-or-le steps_up (top - part.low))
-      where
-        go : (steps_up < top - part.low) ⊎ (top - part.low ≤ steps_up) → record { at = None; part = part } ≡ front has part
-        go (inl i) = sym (front-none has part (λ q a b. passed_up q a (omega (arith, next_found i))))
-        go (inr g) = sym (front-none has part (λ q a b. passed_up q a (omega arith)))
+  pub front_lacks : ((r : ℕ) → next_from has part.low part.high ≡ Some r → part.high ≤ r) → record { at = None; part = part } ≡ front has part
+  unfolding next_from
+  front_lacks past = go (lt-or-le steps_up (top - part.low))
+    where
+      go : (steps_up < top - part.low) ⊎ (top - part.low ≤ steps_up) → record { at = None; part = part } ≡ front has part
+      go (inl i) =
+          let h = past (part.low + steps_up) (ap (λ (t : Bool). place t (part.low + steps_up)) (lt-ltb steps_up (top - part.low) i)) in
+          sym (front-none has part (λ q a b. passed_up q a (omega (arith, h))))
+      go (inr g) = sym (front-none has part (λ q a b. passed_up q a (omega arith)))
 
   abbrev bottom : ℕ
   bottom = bottom_of part.low
@@ -109,41 +104,27 @@ module _ (has : ℕ → Bool) (part : Part) (r : ℕ) where
   passed_down : (q : ℕ) → bottom ≤ q → q < part.high → part.high ≤ q + steps_down → has q ≡ false
   passed_down q a b l = ap has (sym (add-sub_of_le a)) ∙ above_no (part.high - bottom) down (q - bottom) (omega arith) (omega arith)
 
-  module _ (e : r ≡ prev_from has part.low part.high) where
-    abbrev picked : Bool → Bool → ℕ
-    picked s t = cond (s && t) (part.high - steps_down) part.low
+  pub back_found : (r : ℕ) → prev_from has part.low part.high ≡ Some r → part.low ≤ r → record { at = Some r; part = record { low = part.low; high = r } } ≡ back has part
+  unfolding prev_from
+  back_found r e l =
+      let q = cond_some (ltb part.low part.high && ltb steps_down (part.high - bottom)) (part.high - suc steps_down) r e in
+      let at = q.1 in
+      let both = both_true (ltb part.low part.high) (ltb steps_down (part.high - bottom)) q.0 in
+      let h = ltb-true part.low part.high both.0 in
+      let i = ltb-true steps_down (part.high - bottom) both.1 in
+      let p : bottom + (part.high - bottom - suc steps_down) ≡ r = omega (arith, at, h, i) in
+      sym (back_at has part r l (omega (arith, at, h)) (ap has (sym p) ∙ above_yes (part.high - bottom) down i) (λ q a b. passed_down q (omega (arith, l)) b (omega (arith, at, h, i))))
 
-    prev_empty : part.high ≤ part.low → r ≡ part.low
-    unfolding prev_from
-    prev_empty g = e ∙ ap (λ (s : Bool). picked s (ltb steps_down (part.high - bottom))) (le-ltb part.low part.high g)
-
-    prev_found : part.low < part.high → steps_down < part.high - bottom → r ≡ part.high - steps_down
-    unfolding prev_from
-    prev_found h l = e ∙ ap₂ picked (lt-ltb part.low part.high h) (lt-ltb steps_down (part.high - bottom) l)
-
-    prev_lacks : part.low < part.high → part.high - bottom ≤ steps_down → r ≡ part.low
-    unfolding prev_from
-    prev_lacks h g = e ∙ ap₂ picked (lt-ltb part.low part.high h) (le-ltb steps_down (part.high - bottom) g)
-
-    pub back_found : part.low < r → record { at = Some (r - 1); part = record { low = part.low; high = r - 1 } } ≡ back has part
-    back_found l = go (lt-or-le part.low part.high) (lt-or-le steps_down (part.high - bottom))
-      where
-        go : (part.low < part.high) ⊎ (part.high ≤ part.low) → (steps_down < part.high - bottom) ⊎ (part.high - bottom ≤ steps_down)
-            → record { at = Some (r - 1); part = record { low = part.low; high = r - 1 } } ≡ back has part
-        go (inl h) (inl i) =
-            let at = prev_found h i in
-            let p : bottom + (part.high - bottom - suc steps_down) ≡ r - 1 = omega (arith, at) in
-            sym (back_at has part (r - 1) (omega arith) (omega (arith, at)) (ap has (sym p) ∙ above_yes (part.high - bottom) down i) (λ q a b. passed_down q (omega arith) b (omega (arith, at))))
-        go (inl h) (inr g) = absurd (omega (arith, prev_lacks h g))
-        go (inr g) w = absurd (omega (arith, prev_empty g))
-
-    pub back_lacks : r ≤ part.low → record { at = None; part = part } ≡ back has part
-    back_lacks l = go (lt-or-le part.low part.high) (lt-or-le steps_down (part.high - bottom))
-      where
-        go : (part.low < part.high) ⊎ (part.high ≤ part.low) → (steps_down < part.high - bottom) ⊎ (part.high - bottom ≤ steps_down) → record { at = None; part = part } ≡ back has part
-        go (inl h) (inl i) = sym (back_none has part (λ q a b. passed_down q (omega arith) b (omega (arith, prev_found h i))))
-        go (inl h) (inr g) = sym (back_none has part (λ q a b. passed_down q (omega arith) b (omega arith)))
-        go (inr g) w = sym (back_none has part (λ q a b. absurd (omega arith)))
+  pub back_lacks : ((r : ℕ) → prev_from has part.low part.high ≡ Some r → r < part.low) → record { at = None; part = part } ≡ back has part
+  unfolding prev_from
+  back_lacks past = go (lt-or-le part.low part.high) (lt-or-le steps_down (part.high - bottom))
+    where
+      go : (part.low < part.high) ⊎ (part.high ≤ part.low) → (steps_down < part.high - bottom) ⊎ (part.high - bottom ≤ steps_down) → record { at = None; part = part } ≡ back has part
+      go (inl h) (inl i) =
+          let l = past (part.high - suc steps_down) (ap₂ (λ (s t : Bool). place (s && t) (part.high - suc steps_down)) (lt-ltb part.low part.high h) (lt-ltb steps_down (part.high - bottom) i)) in
+          sym (back_none has part (λ q a b. passed_down q (omega (arith, a)) b (omega (arith, l, a, h))))
+      go (inl h) (inr g) = sym (back_none has part (λ q a b. passed_down q (omega (arith, a)) b (omega (arith, a, b, g))))
+      go (inr g) w = sym (back_none has part (λ q a b. absurd (omega arith)))
 
 -- a front step gives a position, or none and the record as it was
 pub front_cases : (P : Step → Type 0) (has : ℕ → Bool) (part : Part) → ((p : ℕ) → P (record { at = Some p; part = record { low = p + 1; high = part.high } }))

@@ -11,20 +11,16 @@ use Rattle.word_bits.specs.Digits.{digit, row}
 use Rattle.word_bits.proofs.Operations.{digit_and, digit_not}
 use Rattle.sets.specs.Members.{bit_of}
 use Rattle.parts.specs.Helpers.{select_word, selected_word}
-use Rattle.parts.specs.Selections.{selected}
-use Rattle.parts.specs.declared.records.Selection.{Selection}
-use Rattle.parts.specs.declared.records.Selection.TheVariants.{Ones, Zeroes, Intersection, Difference}
+use Rattle.parts.specs.Selections.{Selection, Ones, Zeroes, Intersection, Difference, selected}
 
 module _ (x y : ℕ) (hx : x < 2 ^ 64) (hy : y < 2 ^ 64) where
   pub select_lt : (s : Selection) → select_word s x y < 2 ^ 64
-  unfolding select_word
   select_lt Ones = hx
   select_lt Zeroes = ones_sub-lt 64 x
   select_lt Intersection = and_lt 64 x y hx hy
   select_lt Difference = and_lt 64 x ((2 ^ 64 - 1) - y) hx (ones_sub-lt 64 y)
 
   select_digit : (s : Selection) (j : ℕ) → j < 64 → digit (select_word s x y) j ≡ selected s (digit x j) (digit y j)
-  unfolding select_word
   select_digit Ones j h = refl
   select_digit Zeroes j h = digit_not 64 x j hx h
   select_digit Intersection j h = digit_and x y j

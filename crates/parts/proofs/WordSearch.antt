@@ -1,8 +1,8 @@
 -- The next position of a part, by the first or the last word that has one. The word at the end that the search starts from is cut by a mask; the other words are taken whole. Assumes nothing.
 use mathlib.Core.Path.{◌≡◌, sym, ap, ap₂, ◌∙◌}
-use mathlib.Core.Bool.{Bool, true, false, cond, not, ◌&&◌}
+use mathlib.Core.Bool.{Bool, true, false, not, ◌&&◌}
 use mathlib.Core.Logic.{◌⊎◌, inl, inr}
-use Prim.Native.Nat.{ℕ, suc, ◌+◌, ◌-◌, ◌*◌, ◌/◌, ◌%◌, ◌^◌, ◌≤◌, ◌<◌, max}
+use Prim.Native.Nat.{ℕ, suc, ◌+◌, ◌-◌, ◌*◌, ◌/◌, ◌%◌, ◌^◌, ◌≤◌, ◌<◌}
 use native.Mathlib.Nat.{add-sub_of_le}
 use native.Mathlib.Omega.{arith}
 use borrow.Author.Tests.{lt-ltb, le-ltb, ltb-true, ltb-false, not-true}
@@ -17,6 +17,8 @@ use Rattle.word_bits.specs.LowMask.{low_mask}
 use Rattle.word_bits.proofs.LowMasks.{low_mask_lt}
 use Rattle.word_bits.proofs.Order.{lt-or-le}
 use Rattle.word_bits.proofs.ShiftMasks.{digit-from, digit_upto}
+use Rattle.std.specs.Prelude.{Option, Some, None}
+use Rattle.sets.specs.Outcomes.{place}
 use Rattle.parts.specs.Helpers.{FirstWord, LastWord, top_of, next_from, bottom_of, prev_from}
 use Rattle.parts.proofs.CutWords.{cut_none, lowest_yes, lowest_no, highest_yes, highest_no}
 
@@ -38,18 +40,18 @@ module _ (f : ℕ → ℕ) where
     up j = row f (low + j)
 
     -- what a search up gives
-    next_at : (p : ℕ) → low ≤ p → p < top → row f p ≡ true → ((q : ℕ) → low ≤ q → q < p → row f q ≡ false) → next_from (row f) low high ≡ p
+    next_at : (p : ℕ) → low ≤ p → p < top → row f p ≡ true → ((q : ℕ) → low ≤ q → q < p → row f q ≡ false) → next_from (row f) low high ≡ Some p
     unfolding next_from
     next_at p a b y zs =
         let z = below_at (top - low) up (p - low) (omega arith) (ap (row f) (add-sub_of_le a) ∙ y) (λ j i. zs (low + j) (omega arith) (omega arith)) in
-        ap (λ (n : ℕ). cond (ltb n (top - low)) (low + n) (max low high)) z
-        ∙ ap (λ (t : Bool). cond t (low + (p - low)) (max low high)) (lt-ltb (p - low) (top - low) (omega arith)) ∙ add-sub_of_le a
+        ap (λ (n : ℕ). place (ltb n (top - low)) (low + n)) z
+        ∙ ap₂ place (lt-ltb (p - low) (top - low) (omega arith)) (add-sub_of_le a)
 
-    next_none : ((q : ℕ) → low ≤ q → q < top → row f q ≡ false) → next_from (row f) low high ≡ max low high
+    next_none : ((q : ℕ) → low ≤ q → q < top → row f q ≡ false) → next_from (row f) low high ≡ None
     unfolding next_from
     next_none zs =
         let z = below_none (top - low) up (λ j i. zs (low + j) (omega arith) (omega arith)) in
-        ap (λ (n : ℕ). cond (ltb n (top - low)) (low + n) (max low high)) z ∙ ap (λ (t : Bool). cond t (low + (top - low)) (max low high)) (le-ltb (top - low) (top - low) (omega arith))
+        ap (λ (n : ℕ). place (ltb n (top - low)) (low + n)) z ∙ ap (λ (t : Bool). place t (low + (top - low))) (le-ltb (top - low) (top - low) (omega arith))
 
     abbrev bottom : ℕ
     bottom = bottom_of low
@@ -58,26 +60,26 @@ module _ (f : ℕ → ℕ) where
     down j = row f (bottom + j)
 
     -- and a search down
-    abbrev picked : Bool → ℕ → ℕ
-    picked t n = cond (t && ltb n (high - bottom)) (high - n) low
+    abbrev picked : Bool → ℕ → Option ℕ
+    picked t n = place (t && ltb n (high - bottom)) (high - suc n)
 
-    pub prev_empty : high ≤ low → prev_from (row f) low high ≡ low
+    pub prev_empty : high ≤ low → prev_from (row f) low high ≡ None
     unfolding prev_from
     prev_empty g = ap (λ (t : Bool). picked t (zeros_above (high - bottom) down)) (le-ltb low high g)
 
-    prev_at : low < high → (p : ℕ) → bottom ≤ p → p < high → row f p ≡ true → ((q : ℕ) → p < q → q < high → row f q ≡ false) → prev_from (row f) low high ≡ p + 1
+    prev_at : low < high → (p : ℕ) → bottom ≤ p → p < high → row f p ≡ true → ((q : ℕ) → p < q → q < high → row f q ≡ false) → prev_from (row f) low high ≡ Some p
     unfolding prev_from
     prev_at h p a b y zs =
         let z = above_at (high - bottom) down (p - bottom) (omega arith) (ap (row f) (add-sub_of_le a) ∙ y) (λ j i k. zs (bottom + j) (omega arith) (omega arith)) in
         let n : zeros_above (high - bottom) down ≡ high - suc p = omega (arith, z) in
-        let e : high - (high - suc p) ≡ p + 1 = omega arith in
-        ap₂ picked (lt-ltb low high h) n ∙ ap (λ (t : Bool). cond t (high - (high - suc p)) low) (lt-ltb (high - suc p) (high - bottom) (omega arith)) ∙ e
+        let e : high - suc (high - suc p) ≡ p = omega arith in
+        ap₂ picked (lt-ltb low high h) n ∙ ap₂ place (lt-ltb (high - suc p) (high - bottom) (omega arith)) e
 
-    prev_none : low < high → ((q : ℕ) → bottom ≤ q → q < high → row f q ≡ false) → prev_from (row f) low high ≡ low
+    prev_none : low < high → ((q : ℕ) → bottom ≤ q → q < high → row f q ≡ false) → prev_from (row f) low high ≡ None
     unfolding prev_from
     prev_none h zs =
         let z = above_none (high - bottom) down (λ j i. zs (bottom + j) (omega arith) (omega arith)) in
-        ap₂ picked (lt-ltb low high h) z ∙ ap (λ (t : Bool). cond t (high - (high - bottom)) low) (le-ltb (high - bottom) (high - bottom) (omega arith))
+        ap₂ picked (lt-ltb low high h) z ∙ ap (λ (t : Bool). place t (high - suc (high - bottom))) (le-ltb (high - bottom) (high - bottom) (omega arith))
 
     module _ (fit : (k : ℕ) → f k < 2 ^ 64) where
       -- the first word, cut at low, and the words after it
@@ -96,7 +98,7 @@ module _ (f : ℕ → ℕ) where
       pub here_lt : (first_cut ≡ 0 → ⊥) → zeros_below 64 (digit first_cut) < 64
       here_lt n = below_lt 64 first_cut (omega arith) first-lt
 
-      pub front_here : (first_cut ≡ 0 → ⊥) → next_from (row f) low high ≡ low / 64 * 64 + zeros_below 64 (digit first_cut)
+      pub front_here : (first_cut ≡ 0 → ⊥) → next_from (row f) low high ≡ Some (low / 64 * 64 + zeros_below 64 (digit first_cut))
       front_here n =
           let k = low / 64 in
           let keep : ℕ → Bool = λ j. not (ltb j (low % 64)) in
@@ -113,36 +115,31 @@ module _ (f : ℕ → ℕ) where
             in_word (low / 64) q (omega arith) l
             ∙ cut_none (f (low / 64)) first_cut (λ j. not (ltb j (low % 64))) first-lt cut_first z (q - low / 64 * 64) (omega arith) (from_low (q - low / 64 * 64) (omega arith))
 
-        pub front-empty : high ≤ low → next_from (row f) low high ≡ low
-        front-empty g =
-            let e : max low high ≡ low = omega arith in
-            next_none (λ q a b. none_here q a (omega arith)) ∙ e
+        pub front-empty : high ≤ low → next_from (row f) low high ≡ None
+        front-empty g = next_none (λ q a b. none_here q a (omega arith))
 
-        module _ (h : low < high) (k : ℕ) (found : FirstWord f (low / 64 + 1) ((high - 1) / 64 + 1) k) where
-          none_before : (q : ℕ) → low ≤ q → q < k * 64 → row f q ≡ false
-          none_before q a b = go (lt-or-le q (low / 64 * 64 + 64))
-            where
-              go : (q < low / 64 * 64 + 64) ⊎ (low / 64 * 64 + 64 ≤ q) → row f q ≡ false
-              go (inl l) = none_here q a l
-              go (inr g) = zero_word q (found.before (q / 64) (omega arith) (omega arith))
+        none_before : (k : ℕ) → ((i : ℕ) → low / 64 + 1 ≤ i → i < k → f i ≡ 0) → (q : ℕ) → low ≤ q → q < k * 64 → row f q ≡ false
+        none_before k zs q a b = go (lt-or-le q (low / 64 * 64 + 64))
+          where
+            go : (q < low / 64 * 64 + 64) ⊎ (low / 64 * 64 + 64 ≤ q) → row f q ≡ false
+            go (inl l) = none_here q a l
+            go (inr g) = zero_word q (zs (q / 64) (omega arith) (omega arith))
 
-          pub front_over : (high - 1) / 64 + 1 ≤ k → next_from (row f) low high ≡ high
-          front_over g =
-              let e : max low high ≡ high = omega arith in
-              next_none (λ q a b. none_before q a (omega arith)) ∙ e
+        module _ (h : low < high) where
+          pub front_over : FirstWord f (low / 64 + 1) ((high - 1) / 64 + 1) None → next_from (row f) low high ≡ None
+          front_over zs = next_none (λ q a b. none_before ((high - 1) / 64 + 1) zs q a (omega arith))
 
-          pub front_later : k < (high - 1) / 64 + 1 → next_from (row f) low high ≡ k * 64 + zeros_below 64 (digit (f k))
-          front_later l =
-              let n = found.stops l in
+          pub front_later : (k : ℕ) → FirstWord f (low / 64 + 1) ((high - 1) / 64 + 1) (Some k) → next_from (row f) low high ≡ Some (k * 64 + zeros_below 64 (digit (f k)))
+          front_later k (from, l, zs, n) =
               let t = zeros_below 64 (digit (f k)) in
               let t-lt = below_lt 64 (f k) (omega arith) (fit k) in
-              next_at (k * 64 + t) (omega (arith, found.from)) (omega (arith, t-lt)) (row_at f k t t-lt ∙ below_yes 64 (digit (f k)) t-lt)
+              next_at (k * 64 + t) (omega (arith, from)) (omega (arith, t-lt)) (row_at f k t t-lt ∙ below_yes 64 (digit (f k)) t-lt)
               (λ q a b. go q a b (lt-or-le q (k * 64)))
             where
               go : (q : ℕ) → low ≤ q → q < k * 64 + zeros_below 64 (digit (f k)) → (q < k * 64) ⊎ (k * 64 ≤ q) → row f q ≡ false
-              go q a b (inl i) = none_before q a i
+              go q a b (inl i) = none_before k zs q a i
               go q a b (inr g) =
-                  let t-lt = below_lt 64 (f k) (omega (arith, found.stops l)) (fit k) in
+                  let t-lt = below_lt 64 (f k) (omega (arith, n)) (fit k) in
                   in_word k q g (omega (arith, t-lt)) ∙ below_no 64 (digit (f k)) (q - k * 64) (omega arith)
 
       -- the last word, cut at high, and the words before it
@@ -163,45 +160,42 @@ module _ (f : ℕ → ℕ) where
           last_yes : (digit (f ((high - 1) / 64)) (63 - zeros_above 64 (digit last_cut)) ≡ true) × (ltb (63 - zeros_above 64 (digit last_cut)) ((high - 1) % 64 + 1) ≡ true)
           last_yes = highest_yes (f ((high - 1) / 64)) last_cut (λ j. ltb j ((high - 1) % 64 + 1)) last_lt cut_last n
 
-          pub above_here : (zeros_above 64 (digit last_cut) < 64) × ((high - 1) / 64 * 64 + (64 - zeros_above 64 (digit last_cut)) ≤ high)
+          pub above_here : (zeros_above 64 (digit last_cut) < 64) × ((high - 1) / 64 * 64 + (63 - zeros_above 64 (digit last_cut)) < high)
           above_here =
               let t-lt = above_lt 64 last_cut (omega arith) last_lt in
               let upto = ltb-true (63 - zeros_above 64 (digit last_cut)) ((high - 1) % 64 + 1) last_yes.1 in
               (t-lt, omega (arith, upto, t-lt))
 
-          pub back_here : prev_from (row f) low high ≡ (high - 1) / 64 * 64 + (64 - zeros_above 64 (digit last_cut))
+          pub back_here : prev_from (row f) low high ≡ Some ((high - 1) / 64 * 64 + (63 - zeros_above 64 (digit last_cut)))
           back_here =
               let k = (high - 1) / 64 in
               let keep : ℕ → Bool = λ j. ltb j ((high - 1) % 64 + 1) in
               let t = zeros_above 64 (digit last_cut) in
-              let e : k * 64 + (63 - t) + 1 ≡ k * 64 + (64 - t) = omega (arith, above_here.0) in
               prev_at h (k * 64 + (63 - t)) (omega arith) (omega (arith, above_here)) (row_at f k (63 - t) (omega arith) ∙ last_yes.0)
-              (λ q a b. in_word k q (omega arith) (omega arith) ∙ highest_no (f k) last_cut keep last_lt cut_last n (q - k * 64) (omega arith) (omega arith) (below_high (q - k * 64) (omega arith))) ∙ e
+              (λ q a b. in_word k q (omega arith) (omega arith) ∙ highest_no (f k) last_cut keep last_lt cut_last n (q - k * 64) (omega arith) (omega arith) (below_high (q - k * 64) (omega arith)))
 
-        module _ (z : last_cut ≡ 0) (k : ℕ) (found : LastWord f (low / 64) ((high - 1) / 64) k) where
-          none_after : (q : ℕ) → k * 64 ≤ q → q < high → row f q ≡ false
-          none_after q a b = go (lt-or-le q ((high - 1) / 64 * 64))
+        module _ (z : last_cut ≡ 0) where
+          none_after : (k : ℕ) → ((i : ℕ) → k ≤ i → i < (high - 1) / 64 → f i ≡ 0) → (q : ℕ) → k * 64 ≤ q → q < high → row f q ≡ false
+          none_after k zs q a b = go (lt-or-le q ((high - 1) / 64 * 64))
             where
               go : (q < (high - 1) / 64 * 64) ⊎ ((high - 1) / 64 * 64 ≤ q) → row f q ≡ false
-              go (inl l) = zero_word q (found.after (q / 64) (omega arith) (omega arith))
+              go (inl l) = zero_word q (zs (q / 64) (omega arith) (omega arith))
               go (inr g) =
                   in_word ((high - 1) / 64) q g (omega arith)
                   ∙ cut_none (f ((high - 1) / 64)) last_cut (λ j. ltb j ((high - 1) % 64 + 1)) last_lt cut_last z (q - (high - 1) / 64 * 64) (omega arith) (below_high (q - (high - 1) / 64 * 64) (omega arith))
 
-          pub back_over : k ≤ low / 64 → prev_from (row f) low high ≡ low
-          back_over g = prev_none h (λ q a b. none_after q (omega arith) b)
+          pub back_over : LastWord f (low / 64) ((high - 1) / 64) None → prev_from (row f) low high ≡ None
+          back_over zs = prev_none h (λ q a b. none_after (low / 64) zs q (omega arith) b)
 
-          pub back_later : low / 64 < k → prev_from (row f) low high ≡ (k - 1) * 64 + (64 - zeros_above 64 (digit (f (k - 1))))
-          back_later l =
-              let n = found.stops l in
-              let i = k - 1 in
-              let t = zeros_above 64 (digit (f i)) in
-              let t-lt = above_lt 64 (f i) (omega arith) (fit i) in
-              let e : i * 64 + (64 - suc t) + 1 ≡ i * 64 + (64 - t) = omega (arith, t-lt) in
-              prev_at h (i * 64 + (64 - suc t)) (omega arith) (omega (arith, found.upto)) (row_at f i (64 - suc t) (omega arith) ∙ above_yes 64 (digit (f i)) t-lt)
-              (λ q a b. go q a b (lt-or-le q (k * 64))) ∙ e
+          pub back_later : (k : ℕ) → LastWord f (low / 64) ((high - 1) / 64) (Some k) → prev_from (row f) low high ≡ Some (k * 64 + (63 - zeros_above 64 (digit (f k))))
+          back_later k (from, l, zs, n) =
+              let t = zeros_above 64 (digit (f k)) in
+              let t-lt = above_lt 64 (f k) (omega arith) (fit k) in
+              let e : k * 64 + (64 - suc t) ≡ k * 64 + (63 - t) = omega arith in
+              prev_at h (k * 64 + (64 - suc t)) (omega (arith, from)) (omega (arith, l)) (row_at f k (64 - suc t) (omega arith) ∙ above_yes 64 (digit (f k)) t-lt)
+              (λ q a b. go q a b (lt-or-le q (k * 64 + 64))) ∙ ap Some e
             where
-              go : (q : ℕ) → (k - 1) * 64 + (64 - suc (zeros_above 64 (digit (f (k - 1))))) < q → q < high → (q < k * 64) ⊎ (k * 64 ≤ q) → row f q ≡ false
+              go : (q : ℕ) → k * 64 + (64 - suc (zeros_above 64 (digit (f k)))) < q → q < high → (q < k * 64 + 64) ⊎ (k * 64 + 64 ≤ q) → row f q ≡ false
               go q a b (inl i) =
-                  in_word (k - 1) q (omega arith) (omega arith) ∙ above_no 64 (digit (f (k - 1))) (q - (k - 1) * 64) (omega arith) (omega arith)
-              go q a b (inr g) = none_after q g b
+                  in_word k q (omega arith) i ∙ above_no 64 (digit (f k)) (q - k * 64) (omega arith) (omega arith)
+              go q a b (inr g) = none_after (k + 1) (λ i c d. zs i (omega arith) d) q (omega arith) b

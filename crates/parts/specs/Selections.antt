@@ -1,9 +1,13 @@
 -- Which positions of one set a part of a walk is, given another set.
 use Rattle.std.specs.Prelude.{Bool, not, ◌&&◌}
-use Rattle.parts.specs.declared.records.Selection.{Selection}
-use Rattle.parts.specs.declared.records.Selection.TheVariants.{Ones, Zeroes, Intersection, Difference}
 
 -- members, non-members, members that are in the other set, members that are not
+pub data Selection : Type 0 where
+  Ones : Selection
+  Zeroes : Selection
+  Intersection : Selection
+  Difference : Selection
+
 abbrev pub selected : Selection → Bool → Bool → Bool
 selected Ones a b = a
 selected Zeroes a b = not a

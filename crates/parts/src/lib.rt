@@ -3,10 +3,10 @@
 
 mod records;
 mod search;
+mod selections;
 mod steps;
 mod words;
 
-pub use records::{End, Selection, Step};
-pub use search::{back_selected, front_selected};
+pub use records::{End, Step};
+pub use selections::{Difference, Intersection, Ones, Select, Zeroes};
 pub use steps::step_selected;
-pub use words::select_word;

@@ -1,14 +1,5 @@
 use sets::Part;
 
-// Which positions of a set a part is, given another set.
-#[derive(Clone, Copy)]
-pub enum Selection {
-    Ones,
-    Zeroes,
-    Intersection,
-    Difference,
-}
-
 // Which end of a part a step takes.
 #[derive(Clone, Copy)]
 pub enum End {
