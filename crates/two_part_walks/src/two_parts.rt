@@ -1,57 +1,46 @@
-ghost use Rattle.std.specs.Prelude.{◌≡◌, ℕ};
+ghost use Rattle.std.specs.Prelude.{◌≡◌};
 ghost use Rattle.sets.specs.Members.{read};
-ghost use Rattle.parts.specs.Selections.{selected};
-ghost use Rattle.walks.specs.Rules.{pair_step, stepped_pair, union_next_rule, union_next_back_rule, symmetric_difference_next_rule, symmetric_difference_next_back_rule};
 ghost use Rattle.sets.specs.Questions.{pair_questions};
+ghost use Rattle.walks.specs.Helpers.{chosen, placed};
+ghost use Rattle.walks.specs.Rules.{pair_step, without, stepped_pair_of, stepped_pair, union_next_rule, union_next_back_rule, symmetric_difference_next_rule, symmetric_difference_next_back_rule};
 
-use parts::{End, Selection};
-use sets::{FixedBitSet, Part, blocks_of, check_pair};
-use walks::{SteppedPair, step_rows};
+use parts::{Difference, End, Ones, Select};
+use sets::{Checked, FixedBitSet, Part, Refusal};
+use walks::{PairStep, RowStep, step_rows};
 
-// `number` answers the questions of the step. The second part is what `second` selects of the second set, given the first.
-fn two_part_step(
-    number: u64,
+// The part that was stepped has the record after the step, the other its own.
+fn place(one: Part, two: Part, step: RowStep) -> PairStep
+    ensures { result ≡ placed one two step }
+{
+    let (one, two) = if step.second {
+        (one, step.part)
+    } else {
+        (step.part, two)
+    };
+    PairStep {
+        at: step.at,
+        one,
+        two,
+    }
+}
+
+// The first part is what `S` selects of the first set; the second, in each walk here, the second set without the first.
+fn two_part_step<S: Select>(
     a: FixedBitSet,
     words: &[u64],
     b: FixedBitSet,
     other: &[u64],
     one: Part,
     two: Part,
-    first: Selection,
-    second: Selection,
     end: End,
-) -> SteppedPair
-    requires { number ≡ pair_questions a words.now b other.now one two }
-    ensures { result ≡ stepped_pair (pair_questions a words.now b other.now one two) one two (pair_step end (λ (p : ℕ). selected first ((read words.now a).has p) ((read other.now b).has p)) (λ (p : ℕ). selected second ((read other.now b).has p) ((read words.now a).has p)) one two) }
+) -> Result<PairStep, Refusal>
+    ensures { stepped_pair_of one two result ≡ stepped_pair (pair_questions a words.now b other.now one two) one two (pair_step end (chosen S.selection (read words.now a) (read other.now b)) (without (read other.now b) (read words.now a)) one two) }
 {
-    if number != 0 {
-        return SteppedPair {
-            number,
-            at: None,
-            one,
-            two,
-        };
-    }
-    let own = &words[..blocks_of(a.length)];
-    let others = &other[..blocks_of(b.length)];
-    let step = step_rows(own, others, one, two, first, second, end);
-    let at = step.at;
-    let left = step.part;
-    if step.second {
-        SteppedPair {
-            number: 0,
-            at,
-            one,
-            two: left,
-        }
-    } else {
-        SteppedPair {
-            number: 0,
-            at,
-            one: left,
-            two,
-        }
-    }
+    let both = Checked::both(a, words, b, other)?;
+    a.ask_part(one)?;
+    b.ask_part(two)?;
+    let step = step_rows::<S, Difference>(both.0, both.1, one, two, end);
+    Ok(place(one, two, step))
 }
 
 // The next member of the first set, or, where its part is over, of the second without the first. Asks 1 to 3 of each set, then 8 of each part.
@@ -62,13 +51,10 @@ pub fn union_next(
     other: &[u64],
     one: Part,
     two: Part,
-) -> SteppedPair
-    ensures { result ≡ union_next_rule a words.now b other.now one two }
+) -> Result<PairStep, Refusal>
+    ensures { stepped_pair_of one two result ≡ union_next_rule a words.now b other.now one two }
 {
-    let number = check_pair(a, words, b, other, one, two);
-    let kind = Selection::Ones;
-    let rest = Selection::Difference;
-    two_part_step(number, a, words, b, other, one, two, kind, rest, End::Front)
+    two_part_step::<Ones>(a, words, b, other, one, two, End::Front)
 }
 
 // The same from the other end: the second part is tried first. Asks the same.
@@ -79,13 +65,10 @@ pub fn union_next_back(
     other: &[u64],
     one: Part,
     two: Part,
-) -> SteppedPair
-    ensures { result ≡ union_next_back_rule a words.now b other.now one two }
+) -> Result<PairStep, Refusal>
+    ensures { stepped_pair_of one two result ≡ union_next_back_rule a words.now b other.now one two }
 {
-    let number = check_pair(a, words, b, other, one, two);
-    let kind = Selection::Ones;
-    let rest = Selection::Difference;
-    two_part_step(number, a, words, b, other, one, two, kind, rest, End::Back)
+    two_part_step::<Ones>(a, words, b, other, one, two, End::Back)
 }
 
 // The next member of the first set without the second, or, where that part is over, of the second without the first. Asks 1 to 3 of each set, then 8 of each part.
@@ -96,13 +79,10 @@ pub fn symmetric_difference_next(
     other: &[u64],
     one: Part,
     two: Part,
-) -> SteppedPair
-    ensures { result ≡ symmetric_difference_next_rule a words.now b other.now one two }
+) -> Result<PairStep, Refusal>
+    ensures { stepped_pair_of one two result ≡ symmetric_difference_next_rule a words.now b other.now one two }
 {
-    let number = check_pair(a, words, b, other, one, two);
-    let kind = Selection::Difference;
-    let rest = Selection::Difference;
-    two_part_step(number, a, words, b, other, one, two, kind, rest, End::Front)
+    two_part_step::<Difference>(a, words, b, other, one, two, End::Front)
 }
 
 // The same from the other end: the second part is tried first. Asks the same.
@@ -113,11 +93,8 @@ pub fn symmetric_difference_next_back(
     other: &[u64],
     one: Part,
     two: Part,
-) -> SteppedPair
-    ensures { result ≡ symmetric_difference_next_back_rule a words.now b other.now one two }
+) -> Result<PairStep, Refusal>
+    ensures { stepped_pair_of one two result ≡ symmetric_difference_next_back_rule a words.now b other.now one two }
 {
-    let number = check_pair(a, words, b, other, one, two);
-    let kind = Selection::Difference;
-    let rest = Selection::Difference;
-    two_part_step(number, a, words, b, other, one, two, kind, rest, End::Back)
+    two_part_step::<Difference>(a, words, b, other, one, two, End::Back)
 }

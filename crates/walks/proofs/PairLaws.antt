@@ -1,6 +1,6 @@
 -- The part that is tried first, and the one after it. Assumes nothing.
-use mathlib.Core.Path.{◌≡◌, refl, sym, ap}
-use mathlib.Core.Bool.{Bool, true, false, cond}
+use mathlib.Core.Path.{◌≡◌, refl}
+use mathlib.Core.Bool.{Bool, true, false}
 use Prim.Native.Nat.{ℕ}
 use Rattle.parts.specs.Steps.{front, back}
 use Rattle.parts.specs.declared.records.End.{End}
@@ -11,23 +11,8 @@ use Rattle.std.specs.Prelude.{Option}
 use Rattle.std.specs.Prelude.{Some, None}
 use Rattle.walks.specs.Helpers.{row_step, placed}
 use Rattle.walks.specs.Rules.{or_else, pair_step}
-use Rattle.walks.specs.declared.rows.RowStep.{RowStep}
 
-pub or-first : {q : Option ℕ} (p : ℕ) (x y : RowStep) → q ≡ Some p → or_else q x y ≡ x
-or-first p x y e = ap (λ (q : Option ℕ). or_else q x y) e
-
-pub or_second : {q : Option ℕ} (x y : RowStep) → q ≡ None → or_else q x y ≡ y
-or_second x y e = ap (λ (q : Option ℕ). or_else q x y) e
-
--- the records after a step of one of two parts
-module _ (one two : Part) (r : RowStep) where
-  pub placed_first : r.second ≡ false → record { at = r.at; one = r.part; two = two } ≡ placed one two r
-  placed_first e = sym (ap (λ (b : Bool). record { at = r.at; one = cond b one r.part; two = cond b r.part two }) e)
-
-  pub placed_second : r.second ≡ true → record { at = r.at; one = one; two = r.part } ≡ placed one two r
-  placed_second e = sym (ap (λ (b : Bool). record { at = r.at; one = cond b one r.part; two = cond b r.part two }) e)
-
--- so a step of one of two parts, placed, is a step of two parts
+-- a step of one of two parts, placed, is a step of two parts
 module _ (f g : ℕ → Bool) (one two : Part) where
   pub placed_is : (end : End) → placed one two (row_step end f g one two) ≡ pair_step end f g one two
   placed_is Front = go (front f one).at (front f one).part (front g two)

@@ -2,6 +2,8 @@
 use Rattle.std.specs.Prelude.{Bool, not, ◌&&◌, List, ℕ}
 use Rattle.sets.specs.Members.{read, Members}
 use Rattle.sets.specs.Outcomes.{given}
+use Rattle.sets.specs.Refusals.{answer_of}
+use Rattle.sets.specs.declared.refusal.Refusal.{Refusal}
 use Rattle.sets.specs.Questions.{part_questions, two_questions, pair_questions}
 use Rattle.sets.specs.declared.fixed_bit_set.FixedBitSet.{FixedBitSet}
 use Rattle.std.specs.Prelude.{None, Some}
@@ -10,17 +12,25 @@ use Rattle.parts.specs.declared.records.End.{End}
 use Rattle.parts.specs.declared.records.End.TheVariants.{Front, Back}
 use Rattle.sets.specs.declared.answers.Part.{Part}
 use Rattle.parts.specs.declared.records.Step.{Step}
-use Rattle.walks.specs.declared.answers.Stepped.{Stepped}
-use Rattle.std.specs.Prelude.{Option}
-use Rattle.walks.specs.declared.answers.SteppedPair.{SteppedPair}
+use Rattle.std.specs.Prelude.{Option, Result}
+use Rattle.walks.specs.declared.answers.PairStep.{PairStep}
 
 -- at first 0 and L
 abbrev pub first_part : FixedBitSet → Part
 first_part set = record { low = 0; high = set.length }
 
+-- what a step gives: a number, a position or none, and the record of the part after it
+pub record Stepped : Type 0 where
+  pub number : ℕ
+  pub at : Option ℕ
+  pub part : Part
+
 -- refused, none and the record as handed in; else what the step gives
 abbrev pub taken : Step → Stepped
 taken s = record { number = 0; at = s.at; part = s.part }
+
+abbrev pub stepped_of : Part → Result Step Refusal → Stepped
+stepped_of part = answer_of (λ m. record { number = m; at = None; part = part }) taken
 
 abbrev pub stepped : ℕ → Part → Step → Stepped
 stepped n part s = given n (λ m. record { number = m; at = None; part = part }) (taken s)
@@ -49,12 +59,6 @@ difference_next_rule a ws b vs part = stepped (two_questions a ws b vs part) par
 abbrev pub difference_next_back_rule : FixedBitSet → List ℕ → FixedBitSet → List ℕ → Part → Stepped
 difference_next_back_rule a ws b vs part = stepped (two_questions a ws b vs part) part (back (λ p. (read ws a).has p && not ((read vs b).has p)) part)
 
--- a position or none, and both records
-pub record PairStep : Type 0 where
-  pub at : Option ℕ
-  pub one : Part
-  pub two : Part
-
 -- the part that is tried first decides where it gives a position, else the other
 abbrev pub or_else : {A : Type 0} → Option ℕ → A → A → A
 or_else (Some p) x y = x
@@ -69,9 +73,19 @@ pair_step Back f g one two = or_else (back g two).at
     (record { at = (back g two).at; one = one; two = (back g two).part })
     (record { at = (back f one).at; one = (back f one).part; two = two })
 
+-- the same of two parts
+pub record SteppedPair : Type 0 where
+  pub number : ℕ
+  pub at : Option ℕ
+  pub one : Part
+  pub two : Part
+
 -- refused, none and both records as handed in; else what the step gives
 abbrev pub taken_pair : PairStep → SteppedPair
 taken_pair s = record { number = 0; at = s.at; one = s.one; two = s.two }
+
+abbrev pub stepped_pair_of : Part → Part → Result PairStep Refusal → SteppedPair
+stepped_pair_of one two = answer_of (λ m. record { number = m; at = None; one = one; two = two }) taken_pair
 
 abbrev pub stepped_pair : ℕ → Part → Part → PairStep → SteppedPair
 stepped_pair n one two s = given n (λ m. record { number = m; at = None; one = one; two = two }) (taken_pair s)

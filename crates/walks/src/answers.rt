@@ -3,17 +3,9 @@ ghost use Rattle.walks.specs.Rules.{first_part};
 
 use sets::{FixedBitSet, Part};
 
+// A position or none, and what is left of both parts after it: `one` is the record of the first part, over the first set; `two` that of the second, over the second.
 #[derive(Clone, Copy)]
-pub struct Stepped {
-    pub number: u64,
-    pub at: Option<usize>,
-    pub part: Part,
-}
-
-// `one` is the record of the first part, over the first set; `two` that of the second, over the second.
-#[derive(Clone, Copy)]
-pub struct SteppedPair {
-    pub number: u64,
+pub struct PairStep {
     pub at: Option<usize>,
     pub one: Part,
     pub two: Part,

@@ -1,47 +1,44 @@
-ghost use Rattle.std.specs.Prelude.{◌≡◌, ℕ};
+ghost use Rattle.std.specs.Prelude.{◌≡◌};
 ghost use Rattle.sets.specs.Members.{read};
-ghost use Rattle.parts.specs.Selections.{selected};
-ghost use Rattle.parts.specs.Steps.{step};
-ghost use Rattle.walks.specs.Rules.{stepped, ones_next_rule, ones_next_back_rule, zeroes_next_rule};
 ghost use Rattle.sets.specs.Questions.{part_questions};
+ghost use Rattle.parts.specs.Steps.{step};
+ghost use Rattle.walks.specs.Helpers.{chosen};
+ghost use Rattle.walks.specs.Rules.{stepped_of, stepped, ones_next_rule, ones_next_back_rule, zeroes_next_rule};
 
-use crate::answers::Stepped;
-use crate::pairs::pair_step;
-use parts::{End, Selection};
-use sets::{FixedBitSet, Part, check_part};
+use crate::rows::step_row;
+use parts::{End, Ones, Select, Step, Zeroes};
+use sets::{Checked, FixedBitSet, Part, Refusal};
 
-fn one_step(set: FixedBitSet, words: &[u64], part: Part, selection: Selection, end: End) -> Stepped
-    ensures { result ≡ stepped (part_questions set words.now part) part (step end (λ (p : ℕ). selected selection ((read words.now set).has p) ((read words.now set).has p)) part) }
+fn one_step<S: Select>(
+    set: FixedBitSet,
+    words: &[u64],
+    part: Part,
+    end: End,
+) -> Result<Step, Refusal>
+    ensures { stepped_of part result ≡ stepped (part_questions set words.now part) part (step end (chosen S.selection (read words.now set) (read words.now set)) part) }
 {
-    pair_step(
-        check_part(set, words, part),
-        set,
-        words,
-        set,
-        words,
-        part,
-        selection,
-        end,
-    )
+    let checked = Checked::new(set, words)?;
+    set.ask_part(part)?;
+    Ok(step_row::<S>(checked, checked, part, end))
 }
 
 // The least member that the record has left. Asks 1 to 3, then 8.
-pub fn ones_next(set: FixedBitSet, words: &[u64], part: Part) -> Stepped
-    ensures { result ≡ ones_next_rule set words.now part }
+pub fn ones_next(set: FixedBitSet, words: &[u64], part: Part) -> Result<Step, Refusal>
+    ensures { stepped_of part result ≡ ones_next_rule set words.now part }
 {
-    one_step(set, words, part, Selection::Ones, End::Front)
+    one_step::<Ones>(set, words, part, End::Front)
 }
 
 // The greatest member that the record has left. Asks 1 to 3, then 8.
-pub fn ones_next_back(set: FixedBitSet, words: &[u64], part: Part) -> Stepped
-    ensures { result ≡ ones_next_back_rule set words.now part }
+pub fn ones_next_back(set: FixedBitSet, words: &[u64], part: Part) -> Result<Step, Refusal>
+    ensures { stepped_of part result ≡ ones_next_back_rule set words.now part }
 {
-    one_step(set, words, part, Selection::Ones, End::Back)
+    one_step::<Ones>(set, words, part, End::Back)
 }
 
 // The least non-member that the record has left. Asks 1 to 3, then 8.
-pub fn zeroes_next(set: FixedBitSet, words: &[u64], part: Part) -> Stepped
-    ensures { result ≡ zeroes_next_rule set words.now part }
+pub fn zeroes_next(set: FixedBitSet, words: &[u64], part: Part) -> Result<Step, Refusal>
+    ensures { stepped_of part result ≡ zeroes_next_rule set words.now part }
 {
-    one_step(set, words, part, Selection::Zeroes, End::Front)
+    one_step::<Zeroes>(set, words, part, End::Front)
 }

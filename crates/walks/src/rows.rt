@@ -1,10 +1,11 @@
-// Steps over the bits of lent words: no question is asked.
+// Steps over the members of checked sets: no question is asked.
 ghost use Rattle.std.specs.Prelude.{◌≡◌};
+ghost use Rattle.sets.specs.CheckedSets.{members};
 ghost use Rattle.parts.specs.Steps.{step};
-ghost use Rattle.walks.specs.Helpers.{row_of, tried, row_step};
+ghost use Rattle.walks.specs.Helpers.{chosen, tried, row_step};
 
-use parts::{End, Selection, step_selected};
-use sets::Part;
+use parts::{End, Select, Step, step_selected};
+use sets::{Checked, Part};
 
 // A step of one of two parts: whether it is the second, and that part's record after it.
 #[derive(Clone, Copy)]
@@ -14,55 +15,54 @@ pub struct RowStep {
     pub part: Part,
 }
 
+// A step of the part that `S` selects of the first set given the second.
+pub fn step_row<S: Select>(a: Checked<'_>, b: Checked<'_>, part: Part, end: End) -> Step
+    ensures { result ≡ step end (chosen S.selection (members a.entry) (members b.entry)) part }
+{
+    step_selected::<S>(a.words, b.words, part, end)
+}
+
 // `second` tells whether `part`, which is tried first, is the second part.
-fn try_rows(
-    words: &[u64],
-    other: &[u64],
+fn try_rows<S: Select, L: Select>(
+    a: Checked<'_>,
+    b: Checked<'_>,
     part: Part,
-    selection: Selection,
     later: Part,
-    later_selection: Selection,
     end: End,
     second: bool,
 ) -> RowStep
-    ensures { result ≡ tried second (step end (row_of selection words.now other.now) part) (step end (row_of later_selection other.now words.now) later) }
+    ensures { result ≡ tried second (step end (chosen S.selection (members a.entry) (members b.entry)) part) (step end (chosen L.selection (members b.entry) (members a.entry)) later) }
 {
-    let step = step_selected(words, other, part, selection, end);
-    let at = step.at;
-    let left = step.part;
-    match at {
+    let step = step_row::<S>(a, b, part, end);
+    match step.at {
         Some(p) => RowStep {
             second,
             at: Some(p),
-            part: left,
+            part: step.part,
         },
         None => {
-            let last = step_selected(other, words, later, later_selection, end);
-            let found = last.at;
-            let rest = last.part;
+            let last = step_row::<L>(b, a, later, end);
             RowStep {
                 second: !second,
-                at: found,
-                part: rest,
+                at: last.at,
+                part: last.part,
             }
         }
     }
 }
 
-// A step of two parts: the first is what `first` selects of the first slice given the second, the second what `second` selects of the second given the first.
-pub fn step_rows(
-    words: &[u64],
-    other: &[u64],
+// A step of two parts: the first is what `S` selects of the first set given the second, the second what `L` selects of the second given the first.
+pub fn step_rows<S: Select, L: Select>(
+    a: Checked<'_>,
+    b: Checked<'_>,
     one: Part,
     two: Part,
-    first: Selection,
-    second: Selection,
     end: End,
 ) -> RowStep
-    ensures { result ≡ row_step end (row_of first words.now other.now) (row_of second other.now words.now) one two }
+    ensures { result ≡ row_step end (chosen S.selection (members a.entry) (members b.entry)) (chosen L.selection (members b.entry) (members a.entry)) one two }
 {
     match end {
-        End::Front => try_rows(words, other, one, first, two, second, End::Front, false),
-        End::Back => try_rows(other, words, two, second, one, first, End::Back, true),
+        End::Front => try_rows::<S, L>(a, b, one, two, End::Front, false),
+        End::Back => try_rows::<L, S>(b, a, two, one, End::Back, true),
     }
 }
