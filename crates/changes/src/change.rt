@@ -2,7 +2,7 @@ ghost use Rattle.std.specs.Prelude.{◌≡◌, Bool, get_or, set as set_at};
 ghost use Rattle.changes.specs.Changes.{effect, changed_word};
 
 // What happens to each bit that an edit names.
-#[derive(Clone, Copy)]
+#[derive(Clone, Copy, Debug, PartialEq, Eq)]
 pub enum Change {
     Insert,
     Remove,
@@ -10,13 +10,15 @@ pub enum Change {
 }
 
 // Insert for yes, Remove for no.
-pub fn assigning(enabled: bool) -> Change
-    ensures { effect result ≡ (λ (was : Bool). enabled) }
-{
-    if enabled {
-        Change::Insert
-    } else {
-        Change::Remove
+impl From<bool> for Change {
+    ghost from_gives = { λ enabled c. effect c ≡ (λ (was : Bool). enabled) };
+
+    fn from(enabled: bool) -> Change {
+        if enabled {
+            Change::Insert
+        } else {
+            Change::Remove
+        }
     }
 }
 

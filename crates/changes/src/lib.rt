@@ -3,4 +3,4 @@
 
 mod change;
 
-pub use change::{Change, assigning, change_block, change_word};
+pub use change::{Change, change_block, change_word};

@@ -13,15 +13,21 @@ use Rattle.word_bits.specs.Digits.{digit}
 use Rattle.word_bits.proofs.Operations.{digit_power}
 use Rattle.word_bits.proofs.SingleBit.{single_bit, test_bit}
 use Rattle.sets.specs.Members.{words_of, bit_of, read, write, changed}
-use Rattle.sets.specs.Outcomes.{Outcome}
+use Rattle.std.specs.Result.{IsErrAnd}
+use Rattle.std.proofs.Common.{Result}
+use Rattle.std.proofs.lemmas.Result.{err_from_is_err_and}
+use Rattle.sets.specs.Outcomes.{Outcome, given}
+use Rattle.sets.specs.Refusals.{number}
+use Rattle.sets.specs.declared.refusal.Refusal.{Refusal}
+use Rattle.sets.proofs.RefusalLaws.{number_ne0}
 use Rattle.sets.specs.Questions.{questions, position_question, position_questions}
 use Rattle.sets.specs.declared.fixed_bit_set.FixedBitSet.{FixedBitSet}
-use Rattle.sets.proofs.OutcomeLaws.{given_yes}
+use Rattle.sets.proofs.OutcomeLaws.{given_no, given_yes}
 use Rattle.sets.proofs.QuestionLaws.{Valid, first-both, valid, position_below}
 use Rattle.sets.proofs.ReadLaws.{read_below, changed-write, changed-outcome}
 use Rattle.sets.proofs.WordLaws.{word_of_lem}
 use Rattle.changes.specs.Changes.{effect, changed_word}
-use Rattle.edits.specs.Rules.{at_position}
+use Rattle.edits.specs.Rules.{at_position, put_outcome, replaced_of}
 use Rattle.changes.specs.declared.change.Change.{Change}
 use Rattle.changes.proofs.WordChanges.{changed-digit, changed-lt}
 
@@ -112,3 +118,15 @@ module _ (set : FixedBitSet) (ws : List ℕ) (bit : ℕ) (accepted : 0 ≡ posit
       (ap (λ (x : ℕ). set_at ws (bit / 64) x)
       (e ∙ ap (λ (m : ℕ). changed_word change m (get_or ws (bit / 64) 0)) (single_bit (bit % 64) (omega arith)))
       ∙ position_write set ws position_valid fit bit position_in change))
+
+-- a `put` that a refusal ends
+pub put_refused : (set : FixedBitSet) (ws : List ℕ) (given_edit : Outcome) (given_was : Bool) {n : ℕ} (r : Result (FixedBitSet × Bool) Refusal) (e : Refusal)
+    → IsErrAnd r (λ d. d ≡ e) → number e ≡ n
+    → put_outcome (replaced_of set r) ws
+    ≡ record { edit = given n (λ m. record { number = m; set = set; words = ws }) given_edit; was = given n (λ m. false) given_was }
+put_refused set ws given_edit given_was r e passed numbered =
+    let p = err_from_is_err_and r passed in
+    ap (λ (x : Result (FixedBitSet × Bool) Refusal). put_outcome (replaced_of set x) ws) p.1
+    ∙ ap₂ (λ (o : Outcome) (w : Bool). record { edit = o; was = w })
+    (given_no (λ m. record { number = m; set = set; words = ws }) given_edit (ap number p.2 ∙ numbered) (number_ne0 p.0))
+    (given_no (λ m. false) given_was (ap number p.2 ∙ numbered) (number_ne0 p.0))

@@ -1,8 +1,10 @@
 -- The rule of each edit: its questions in order, and what it leaves.
-use Rattle.std.specs.Prelude.{Bool, false, List, ℕ, ◌+◌, max, length}
+use Rattle.std.specs.Prelude.{Bool, false, List, ℕ, ◌+◌, max, length, Result}
 use Rattle.sets.specs.Members.{Members, read}
 use Rattle.sets.specs.Questions.{first, questions, new_questions, positions_question, position_questions, range_questions}
 use Rattle.sets.specs.Outcomes.{Outcome, given, edited}
+use Rattle.sets.specs.Refusals.{answer_of}
+use Rattle.sets.specs.declared.refusal.Refusal.{Refusal}
 use Rattle.sets.specs.declared.fixed_bit_set.FixedBitSet.{FixedBitSet}
 use Rattle.edits.specs.Edits.{inserted, removed, toggled, assigned, copied, inserted_all, inserted_range, removed_range, toggled_range, assigned_range, cleared, grown, grown_and_inserted}
 use Rattle.edits.specs.declared.positions.Replaced.{Replaced}
@@ -33,6 +35,10 @@ pub record PutOutcome : Type 0 where
 
 abbrev pub put_outcome : Replaced → List ℕ → PutOutcome
 put_outcome r ws = record { edit = record { number = r.number; set = r.set; words = ws }; was = r.was }
+
+-- a refused `put` leaves the set as handed in, and tells no
+abbrev pub replaced_of : FixedBitSet → Result (FixedBitSet × Bool) Refusal → Replaced
+replaced_of set = answer_of (λ m. record { number = m; set = set; was = false }) (λ after. record { number = 0; set = after.0; was = after.1 })
 
 abbrev pub put_rule : FixedBitSet → List ℕ → ℕ → PutOutcome
 put_rule set ws bit = record {

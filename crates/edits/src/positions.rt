@@ -1,12 +1,14 @@
 ghost use Rattle.std.specs.Prelude.{◌≡◌, eqb};
 ghost use Rattle.sets.specs.Members.{read, changed};
 ghost use Rattle.sets.specs.Outcomes.{outcome};
+ghost use Rattle.sets.specs.Refusals.{edited_of};
 ghost use Rattle.changes.specs.Changes.{effect};
-ghost use Rattle.edits.specs.Rules.{at_position, insert_rule, remove_rule, toggle_rule, set_rule, copy_bit_rule, put_outcome, put_rule};
+ghost use Rattle.edits.specs.Rules.{at_position, insert_rule, remove_rule, toggle_rule, set_rule, copy_bit_rule, put_outcome, put_rule, replaced_of};
 
-use changes::{Change, assigning, change_word};
-use sets::{Edited, FixedBitSet, check_position, member};
+use changes::{Change, change_word};
+use sets::{FixedBitSet, Refusal, member};
 
+// The answer of `put` as a record.
 #[repr(C)]
 #[derive(Clone, Copy)]
 pub struct Replaced {
@@ -15,74 +17,95 @@ pub struct Replaced {
     pub was: bool,
 }
 
-fn change_position(set: FixedBitSet, words: &mut [u64], bit: usize, change: Change) -> Edited
-    ensures { outcome result words.new ≡ at_position set words.old bit (changed (eqb bit) (effect change) (read words.old set)) }
-{
-    let number = check_position(set, words, bit);
-    if number != 0 {
-        return Edited { number, set };
+impl Replaced {
+    // The set as handed in stands beside a refusal.
+    pub fn new(set: FixedBitSet, answer: Result<(FixedBitSet, bool), Refusal>) -> Replaced
+        ensures { result ≡ replaced_of set answer }
+    {
+        match answer {
+            Ok((after, was)) => Replaced {
+                number: 0,
+                set: after,
+                was,
+            },
+            Err(refusal) => Replaced {
+                number: refusal.into(),
+                set,
+                was: false,
+            },
+        }
     }
+}
+
+fn change_position(
+    set: FixedBitSet,
+    words: &mut [u64],
+    bit: usize,
+    change: Change,
+) -> Result<FixedBitSet, Refusal>
+    ensures { outcome (edited_of set result) words.new ≡ at_position set words.old bit (changed (eqb bit) (effect change) (read words.old set)) }
+{
+    set.check_position(words, bit)?;
     let k = bit / 64;
     let rem = bit % 64;
     words[k] = change_word(words[k], 1 << rem, change);
-    Edited { number: 0, set }
+    Ok(set)
 }
 
 // Makes the position a member. Asks 1 to 3, then 4.
-pub fn insert(set: FixedBitSet, words: &mut [u64], bit: usize) -> Edited
-    ensures { outcome result words.new ≡ insert_rule set words.old bit }
+pub fn insert(set: FixedBitSet, words: &mut [u64], bit: usize) -> Result<FixedBitSet, Refusal>
+    ensures { outcome (edited_of set result) words.new ≡ insert_rule set words.old bit }
 {
     change_position(set, words, bit, Change::Insert)
 }
 
 // Makes the position no member. Asks 1 to 3, then 4.
-pub fn remove(set: FixedBitSet, words: &mut [u64], bit: usize) -> Edited
-    ensures { outcome result words.new ≡ remove_rule set words.old bit }
+pub fn remove(set: FixedBitSet, words: &mut [u64], bit: usize) -> Result<FixedBitSet, Refusal>
+    ensures { outcome (edited_of set result) words.new ≡ remove_rule set words.old bit }
 {
     change_position(set, words, bit, Change::Remove)
 }
 
 // Flips the position. Asks 1 to 3, then 4.
-pub fn toggle(set: FixedBitSet, words: &mut [u64], bit: usize) -> Edited
-    ensures { outcome result words.new ≡ toggle_rule set words.old bit }
+pub fn toggle(set: FixedBitSet, words: &mut [u64], bit: usize) -> Result<FixedBitSet, Refusal>
+    ensures { outcome (edited_of set result) words.new ≡ toggle_rule set words.old bit }
 {
     change_position(set, words, bit, Change::Toggle)
 }
 
 // Inserts the position for yes, removes it for no. Asks 1 to 3, then 4.
-pub fn set(set: FixedBitSet, words: &mut [u64], bit: usize, enabled: bool) -> Edited
-    ensures { outcome result words.new ≡ set_rule set words.old bit enabled }
+pub fn set(
+    set: FixedBitSet,
+    words: &mut [u64],
+    bit: usize,
+    enabled: bool,
+) -> Result<FixedBitSet, Refusal>
+    ensures { outcome (edited_of set result) words.new ≡ set_rule set words.old bit enabled }
 {
-    change_position(set, words, bit, assigning(enabled))
+    change_position(set, words, bit, Change::from(enabled))
 }
 
 // Gives `to` the state that `from` had; a `from` at or above the length counts as no. Asks 1 to 3, then 4 of `to`.
-pub fn copy_bit(set: FixedBitSet, words: &mut [u64], from: usize, to: usize) -> Edited
-    ensures { outcome result words.new ≡ copy_bit_rule set words.old from to }
+pub fn copy_bit(
+    set: FixedBitSet,
+    words: &mut [u64],
+    from: usize,
+    to: usize,
+) -> Result<FixedBitSet, Refusal>
+    ensures { outcome (edited_of set result) words.new ≡ copy_bit_rule set words.old from to }
 {
     let enabled = member(set, words, from);
-    change_position(set, words, to, assigning(enabled))
+    change_position(set, words, to, Change::from(enabled))
 }
 
 // Inserts the position, and tells whether it was a member. Asks 1 to 3, then 4.
-pub fn put(set: FixedBitSet, words: &mut [u64], bit: usize) -> Replaced
-    ensures { put_outcome result words.new ≡ put_rule set words.old bit }
+pub fn put(set: FixedBitSet, words: &mut [u64], bit: usize) -> Result<(FixedBitSet, bool), Refusal>
+    ensures { put_outcome (replaced_of set result) words.new ≡ put_rule set words.old bit }
 {
-    let number = check_position(set, words, bit);
-    if number != 0 {
-        return Replaced {
-            number,
-            set,
-            was: false,
-        };
-    }
+    set.check_position(words, bit)?;
     let k = bit / 64;
     let rem = bit % 64;
     let word = words[k];
     words[k] = change_word(word, 1 << rem, Change::Insert);
-    Replaced {
-        number: 0,
-        set,
-        was: word & (1 << rem) != 0,
-    }
+    Ok((set, word & (1 << rem) != 0))
 }

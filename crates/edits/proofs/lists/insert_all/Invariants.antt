@@ -1,11 +1,6 @@
--- The first k positions are marked.
-use Prim.Native.Nat.{◌≤◌, ◌-◌}
-use lib.ListN.{length}
+-- The positions up to the index are marked.
 use Rattle.edits.proofs.ListChanges.{Marking}
 use Rattle.edits.proofs.lists.insert_all.Given as goal
 
-abbrev pub invariant-loop-k : goal.invariant-loop-k
-invariant-loop-k l = (l.k ≤ length l.positions) × Marking l.set l.positions l.initial.words l.k l.words
-
-abbrev pub decreases-loop-k : goal.decreases-loop-k
-decreases-loop-k l = length l.positions - l.k
+abbrev pub invariant-loop-position : goal.invariant-loop-position
+invariant-loop-position l = Marking l.set l.positions l.initial.words l.position-index l.words

@@ -11,5 +11,5 @@ returns c =
     let a = c.args in
     let ws = a.words.now in
     c.change_position.ensures
-    ∙ ap (λ (f : Bool → Bool). at_position a.set ws a.to (changed (eqb a.to) f (read ws a.set))) c.assigning.ensures
+    ∙ ap (λ (f : Bool → Bool). at_position a.set ws a.to (changed (eqb a.to) f (read ws a.set))) c.from.ensures
     ∙ ap (λ (b : Bool). at_position a.set ws a.to (assigned a.to b (read ws a.set))) c.member-enabled.ensures

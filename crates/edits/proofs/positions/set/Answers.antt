@@ -10,4 +10,4 @@ returns c =
     let a = c.args in
     let ws = a.words.now in
     c.change_position.ensures
-    ∙ ap (λ (f : Bool → Bool). at_position a.set ws a.bit (changed (eqb a.bit) f (read ws a.set))) c.assigning.ensures
+    ∙ ap (λ (f : Bool → Bool). at_position a.set ws a.bit (changed (eqb a.bit) f (read ws a.set))) c.from.ensures
