@@ -1,7 +1,7 @@
--- A message in parts. Assumes nothing.
-use mathlib.Core.Path.{◌≡◌, sym, ap, ◌∙◌}
+-- What is shown of a bad line, and how many digits a number has. Assumes nothing.
+use mathlib.Core.Path.{◌≡◌, ap}
 use mathlib.Core.Bool.{Bool, true, false, cond}
-use mathlib.Core.List.{List, [], ◌∷◌, ◌++◌, append_assoc}
+use mathlib.Core.List.{List, [], ◌∷◌, ◌++◌}
 use Prim.Native.Nat.{ℕ, zero, suc, ◌+◌, ◌/◌, ◌%◌, ◌≤◌}
 use native.Mathlib.Omega.{arith}
 use lib.Dec.{ltb}
@@ -9,15 +9,6 @@ use lib.ListN.{length, length-append}
 use Rattle.byte_texts.specs.Ascii.{ascii}
 use Rattle.byte_texts.specs.Texts.{decimal_of, decimal, shown_text}
 use Rattle.text_lines.specs.Messages.{bad_text}
-
--- the place and the reason, and behind them the line's bytes
-pub bad_parts : (name : List ℕ) (k : ℕ) (reason body : List ℕ)
-    → ascii "ERROR: " ++ name ++ ascii ", line " ++ decimal k ++ ascii ": " ++ reason ++ (ascii ": " ++ shown_text body ++ ascii "\n") ≡ bad_text name k reason body
-unfolding bad_text
-bad_parts name k reason body =
-    let said = ascii "ERROR: " ++ name ++ ascii ", line " ++ decimal k ++ ascii ": " ++ reason in
-    sym (append_assoc said (ascii ": " ++ shown_text body) (ascii "\n"))
-    ∙ ap (λ (xs : List ℕ). xs ++ ascii "\n") (sym (append_assoc said (ascii ": ") (shown_text body)))
 
 -- a bad line is said by what is shown of it
 pub bad_shown : (name : List ℕ) (k : ℕ) (reason body full : List ℕ) → shown_text body ≡ shown_text full → bad_text name k reason body ≡ bad_text name k reason full

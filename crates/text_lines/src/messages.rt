@@ -1,42 +1,31 @@
+#![tactic(auto, using(byte_texts::proofs::TextLaws::written_more), unfolding(byte_texts::specs::Ascii::ascii, crate::specs::Messages::bad_text))]
+
 ghost use Rattle.std.specs.Prelude.{◌≡◌, ◌++◌};
 ghost use Rattle.byte_texts.specs.Ascii.{ascii};
-ghost use Rattle.byte_texts.specs.Texts.{written, decimal, shown_text};
+ghost use Rattle.byte_texts.specs.Texts.{decimal};
+ghost use Rattle.byte_texts.specs.Growth.{Appended};
 ghost use Rattle.text_lines.specs.Messages.{bad_text};
 
-use byte_texts::{append, append_decimal, append_text};
+use byte_texts::Text;
 
 // A word, and the line that it is said of.
-pub fn append_place(report: &mut [u8], at: usize, word: &[u8], name: &[u8], line: usize) -> usize
-    ensures { record { end = result; out = report.new } ≡ written report.old at (word.now ++ name.now ++ ascii ", line " ++ decimal line) }
+pub fn append_place(report: &mut Text, word: &[u8], name: &[u8], line: usize)
+    ensures { Appended report.old report.new (word.now ++ name.now ++ ascii ", line " ++ decimal line) }
 {
-    let a = append(report, at, word);
-    let b = append(report, a, name);
-    let c = append(report, b, b", line ");
-    append_decimal(report, c, line as u64)
-}
-
-// The bytes of a bad line, behind its reason.
-fn append_body(report: &mut [u8], at: usize, body: &[u8]) -> usize
-    ensures { record { end = result; out = report.new } ≡ written report.old at (ascii ": " ++ shown_text body.now ++ ascii "\n") }
-{
-    let a = append(report, at, b": ");
-    let b = append_text(report, a, body);
-    append(report, b, b"\n")
+    report.append(word);
+    report.append(name);
+    report.append(b", line ");
+    report.append_decimal(line as u64);
 }
 
 // A bad line.
-pub fn append_bad(
-    report: &mut [u8],
-    at: usize,
-    name: &[u8],
-    line: usize,
-    reason: &[u8],
-    body: &[u8],
-) -> usize
-    ensures { record { end = result; out = report.new } ≡ written report.old at (bad_text name.now line reason.now body.now) }
+pub fn append_bad(report: &mut Text, name: &[u8], line: usize, reason: &[u8], body: &[u8])
+    ensures { Appended report.old report.new (bad_text name.now line reason.now body.now) }
 {
-    let a = append_place(report, at, b"ERROR: ", name, line);
-    let b = append(report, a, b": ");
-    let c = append(report, b, reason);
-    append_body(report, c, body)
+    append_place(report, b"ERROR: ", name, line);
+    report.append(b": ");
+    report.append(reason);
+    report.append(b": ");
+    report.append_text(body);
+    report.append(b"\n");
 }
