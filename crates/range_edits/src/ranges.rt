@@ -2,12 +2,13 @@ ghost use Rattle.std.specs.Prelude.{◌≡◌};
 ghost use Rattle.masks.specs.Ranges.{covers};
 ghost use Rattle.sets.specs.Members.{read, changed};
 ghost use Rattle.sets.specs.Outcomes.{outcome};
+ghost use Rattle.sets.specs.Refusals.{edited_of};
 ghost use Rattle.changes.specs.Changes.{effect};
 ghost use Rattle.edits.specs.Rules.{over_range, insert_range_rule, remove_range_rule, toggle_range_rule, set_range_rule};
 
 use crate::covered::change_covered;
-use changes::{Change, assigning};
-use sets::{Edited, FixedBitSet, check_range};
+use changes::Change;
+use sets::{FixedBitSet, Refusal};
 
 fn change_range(
     set: FixedBitSet,
@@ -15,34 +16,46 @@ fn change_range(
     start: usize,
     end: usize,
     change: Change,
-) -> Edited
-    ensures { outcome result words.new ≡ over_range set words.old start end (changed (covers start end) (effect change) (read words.old set)) }
+) -> Result<FixedBitSet, Refusal>
+    ensures { outcome (edited_of set result) words.new ≡ over_range set words.old start end (changed (covers start end) (effect change) (read words.old set)) }
 {
-    let number = check_range(set, words, start, end);
-    if number != 0 {
-        return Edited { number, set };
-    }
+    set.check_range(words, start, end)?;
     change_covered(words, start, end, change);
-    Edited { number: 0, set }
+    Ok(set)
 }
 
 // Makes each position of the range a member. Asks 1 to 3, then 5.
-pub fn insert_range(set: FixedBitSet, words: &mut [u64], start: usize, end: usize) -> Edited
-    ensures { outcome result words.new ≡ insert_range_rule set words.old start end }
+pub fn insert_range(
+    set: FixedBitSet,
+    words: &mut [u64],
+    start: usize,
+    end: usize,
+) -> Result<FixedBitSet, Refusal>
+    ensures { outcome (edited_of set result) words.new ≡ insert_range_rule set words.old start end }
 {
     change_range(set, words, start, end, Change::Insert)
 }
 
 // Makes no position of the range a member. Asks 1 to 3, then 5.
-pub fn remove_range(set: FixedBitSet, words: &mut [u64], start: usize, end: usize) -> Edited
-    ensures { outcome result words.new ≡ remove_range_rule set words.old start end }
+pub fn remove_range(
+    set: FixedBitSet,
+    words: &mut [u64],
+    start: usize,
+    end: usize,
+) -> Result<FixedBitSet, Refusal>
+    ensures { outcome (edited_of set result) words.new ≡ remove_range_rule set words.old start end }
 {
     change_range(set, words, start, end, Change::Remove)
 }
 
 // Flips each position of the range. Asks 1 to 3, then 5.
-pub fn toggle_range(set: FixedBitSet, words: &mut [u64], start: usize, end: usize) -> Edited
-    ensures { outcome result words.new ≡ toggle_range_rule set words.old start end }
+pub fn toggle_range(
+    set: FixedBitSet,
+    words: &mut [u64],
+    start: usize,
+    end: usize,
+) -> Result<FixedBitSet, Refusal>
+    ensures { outcome (edited_of set result) words.new ≡ toggle_range_rule set words.old start end }
 {
     change_range(set, words, start, end, Change::Toggle)
 }
@@ -54,8 +67,8 @@ pub fn set_range(
     start: usize,
     end: usize,
     enabled: bool,
-) -> Edited
-    ensures { outcome result words.new ≡ set_range_rule set words.old start end enabled }
+) -> Result<FixedBitSet, Refusal>
+    ensures { outcome (edited_of set result) words.new ≡ set_range_rule set words.old start end enabled }
 {
-    change_range(set, words, start, end, assigning(enabled))
+    change_range(set, words, start, end, Change::from(enabled))
 }

@@ -1,19 +1,20 @@
 use mathlib.Core.Path.{sym, ◌∙◌}
-use Rattle.sets.proofs.OutcomeLaws.{edited_no, given_yes}
+use Rattle.sets.proofs.OutcomeLaws.{given_yes}
 use Rattle.sets.proofs.QuestionLaws.{first-both, valid}
 use Rattle.sets.proofs.RangeQuestionLaws.{within}
 use Rattle.sets.proofs.ReadLaws.{changed-outcome}
+use Rattle.sets.proofs.RefusalLaws.{edit_refused}
 use Rattle.range_edits.proofs.RangeChanges.{range_write}
 use Rattle.range_edits.proofs.ranges.change_range.Goals as goal
 
-pub returns-then-number-ne0 : goal.returns-then-number-ne0
-returns-then-number-ne0 c = edited_no _ _ _ c.check_range-number.ensures c.if-number-ne0.true
+pub returns-in_err-check_range : goal.returns-in_err-check_range
+returns-in_err-check_range c = edit_refused _ _ _ _ _ c.from_residual.ensures.1 c.in_err-check_range.ensures
 
 pub returns : goal.returns
 returns c =
     let a = c.args in
     let ws = a.words.now in
-    let accepted = sym c.if-number-ne0.false ∙ c.check_range-number.ensures in
+    let accepted = c.in_ok-check_range.ensures in
     let both = first-both _ _ (sym accepted) in
     given_yes _ accepted
     (changed-outcome _ ws _ _

@@ -10,4 +10,4 @@ returns c =
     let a = c.args in
     let ws = a.words.now in
     c.change_range.ensures
-    ∙ ap (λ (f : Bool → Bool). over_range a.set ws a.start a.end (changed (covers a.start a.end) f (read ws a.set))) c.assigning.ensures
+    ∙ ap (λ (f : Bool → Bool). over_range a.set ws a.start a.end (changed (covers a.start a.end) f (read ws a.set))) c.from.ensures
