@@ -1,39 +1,60 @@
--- What the loop stores, as what a call has written; and the members of sets as bits of their own words. Assumes nothing.
-use mathlib.Core.Path.{◌≡◌, refl, sym, ap, ap₂, ◌∙◌, fun_ext}
+-- What the loop stores, as what a call has written, and what a call that a refusal ends gives. Assumes nothing.
+use mathlib.Core.Path.{◌≡◌, refl, sym, ap, ap₂, ◌∙◌}
 use mathlib.Core.Bool.{Bool}
 use mathlib.Core.List.{List, ◌++◌}
 use Prim.Native.Nat.{ℕ, ◌+◌, ◌-◌, ◌*◌, ◌≤◌}
 use native.Mathlib.Nat.{sub-zero, zero-add}
 use native.Mathlib.Omega.{arith}
-use lib.ListN.{length, take, drop, length-append, length-drop}
-use lib.Seq.{length-take-le, take_at, drop_at, drop-drop}
-use Rattle.sets.specs.Members.{words_of, bit_of, read}
-use Rattle.sets.specs.declared.fixed_bit_set.FixedBitSet.{FixedBitSet}
-use Rattle.sets.specs.declared.answers.Part.{Part}
+use lib.ListN.{length, drop, length-append, length-drop}
+use lib.Seq.{take_at, drop_at, drop-drop}
+use Rattle.std.specs.Result.{IsErrAnd}
+use Rattle.std.proofs.Common.{Result}
+use Rattle.std.proofs.lemmas.Result.{err_from_is_err_and}
+use Rattle.sets.specs.CheckedSets.{members}
+use Rattle.sets.specs.Members.{Members, read}
+use Rattle.sets.specs.Outcomes.{given}
 use Rattle.sets.specs.Questions.{part_question}
-use Rattle.sets.proofs.QuestionLaws.{Valid}
+use Rattle.sets.specs.Refusals.{number}
+use Rattle.sets.specs.declared.answers.Part.{Part}
+use Rattle.sets.specs.declared.checked.Checked.{Checked}
+use Rattle.sets.specs.declared.fixed_bit_set.FixedBitSet.{FixedBitSet}
+use Rattle.sets.specs.declared.refusal.Refusal.{Refusal}
+use Rattle.sets.proofs.OutcomeLaws.{given_no}
 use Rattle.sets.proofs.RangeQuestionLaws.{part_within}
+use Rattle.sets.proofs.ReadLaws.{read_len}
+use Rattle.sets.proofs.RefusalLaws.{number_ne0}
 use Rattle.sets.proofs.WordLaws.{words_hold}
-use Rattle.parts.specs.Selections.{selected}
-use Rattle.parts.specs.declared.records.Selection.{Selection}
-use Rattle.walks.proofs.WalkLaws.{slice_bits}
+use Rattle.next_many.specs.Calls.{next_many_of, next_many_pair_of}
 use Rattle.next_many.specs.Helpers.{FillOutcome, stored, filled}
 use Rattle.next_many.specs.Many.{Many, front_steps, front_pairs}
-use Rattle.next_many.specs.Rules.{ManyOutcome, written, ManyPairOutcome, written_pair}
+use Rattle.next_many.specs.Rules.{ManyOutcome, many_outcome, written, ManyPairOutcome, many_pair_outcome, written_pair}
+use Rattle.next_many.specs.declared.answers.Many.{Many as Answered}
+use Rattle.next_many.specs.declared.answers.ManyPair.{ManyPair as AnsweredPair}
 use Rattle.next_many.proofs.ManyLaws.{steps_high, steps_length, rest, pairs_are}
 
--- a part lies within its set's own words
-pub own_room : (a : FixedBitSet) (ws : List ℕ) (part : Part) → Valid a ws → part_question a part ≡ 0 → {m : ℕ} → m ≡ words_of a.length
-    → part.high ≤ length (take m ws) * 64
-own_room a ws part v q {m} e =
-    rw (length-take-le m ws (omega (arith, v.enough))) (omega (arith, (part_within a part q).inside, (words_hold a.length).0))
+-- a part that question 8 passes lies within the checked set, and so within its own words
+pub part_room : (c : Checked) (ws : List ℕ) (set : FixedBitSet) (part : Part) → members c ≡ read ws set → 0 ≡ part_question set part → part.high ≤ c.length
+part_room c ws set part e q =
+    let l : c.length ≡ set.length = sym (read_len c.words.now (record { length = c.length })) ∙ ap (λ (m : Members). m.len) e ∙ read_len ws set in
+    rw l (part_within set part (sym q)).inside
 
--- the members of two sets, by the bits of their own words
-pub member_bits : (s : Selection) (a : FixedBitSet) (ws : List ℕ) (b : FixedBitSet) (vs : List ℕ) → Valid a ws → Valid b vs → {m n : ℕ}
-    → m ≡ words_of a.length → n ≡ words_of b.length
-    → ◌≡◌ {A = ℕ → Bool} (λ p. selected s (bit_of (take m ws) p) (bit_of (take n vs) p)) (λ p. selected s ((read ws a).has p) ((read vs b).has p))
-member_bits s a ws b vs va vb e f =
-    fun_ext (λ p. ap₂ (selected s) (ap (λ (i : ℕ). bit_of (take i ws) p) e ∙ slice_bits a ws va p) (ap (λ (i : ℕ). bit_of (take i vs) p) f ∙ slice_bits b vs vb p))
+pub own_room : (c : Checked) {high : ℕ} → high ≤ c.length → high ≤ length c.words.now * 64
+own_room c h = rw c.sound.own (omega (arith, h, (words_hold c.length).0))
+
+-- a call that a refusal ends: nothing is written
+pub many_refused : (part : Part) (out : List ℕ) (given_else : ManyOutcome) {n : ℕ} (r : Result Answered Refusal) (e : Refusal) → IsErrAnd r (λ d. d ≡ e) → number e ≡ n
+    → many_outcome (next_many_of part r) out ≡ given n (λ m. record { number = m; count = 0; part = part; out = out }) given_else
+many_refused part out given_else r e passed numbered =
+    let p = err_from_is_err_and r passed in
+    ap (λ (x : Result Answered Refusal). many_outcome (next_many_of part x) out) p.1
+    ∙ given_no (λ m. record { number = m; count = 0; part = part; out = out }) given_else (ap number p.2 ∙ numbered) (number_ne0 p.0)
+
+pub pair_refused : (one two : Part) (out : List ℕ) (given_else : ManyPairOutcome) {n : ℕ} (r : Result AnsweredPair Refusal) (e : Refusal) → IsErrAnd r (λ d. d ≡ e) → number e ≡ n
+    → many_pair_outcome (next_many_pair_of one two r) out ≡ given n (λ m. record { number = m; count = 0; one = one; two = two; out = out }) given_else
+pair_refused one two out given_else r e passed numbered =
+    let p = err_from_is_err_and r passed in
+    ap (λ (x : Result AnsweredPair Refusal). many_pair_outcome (next_many_pair_of one two x) out) p.1
+    ∙ given_no (λ m. record { number = m; count = 0; one = one; two = two; out = out }) given_else (ap number p.2 ∙ numbered) (number_ne0 p.0)
 
 module _ (has : ℕ → Bool) (part : Part) (out : List ℕ) where
   -- the loop from word 0 on

@@ -14,7 +14,8 @@ use Rattle.parts.specs.declared.records.End.{End}
 use Rattle.parts.specs.declared.records.End.TheVariants.{Front, Back}
 use Rattle.parts.specs.declared.records.Step.{Step}
 use Rattle.parts.proofs.PartLaws.{front_at, front_cases, front-none, back_none}
-use Rattle.walks.specs.Rules.{PairStep, or_else, pair_step}
+use Rattle.walks.specs.Rules.{or_else, pair_step}
+use Rattle.walks.specs.declared.answers.PairStep.{PairStep}
 use Rattle.next_many.specs.Many.{Many, front_steps, ManyPair, front_pairs}
 
 -- a step, and n after it

@@ -5,21 +5,20 @@ ghost use Rattle.next_many.specs.Helpers.{fill_outcome, filled};
 
 use crate::answers::Filled;
 use blocks::block;
-use parts::{Selection, select_word};
+use parts::Select;
 use word_bits::trailing_zeros;
 
-// The selected positions of low..high, rising, into out[from..], as many as fit. `rest` is what is left of word k. High is asked of each position, so that no word but the first is cut.
-fn fill(
+// The selected positions of low..high, rising, into out[from..], as many as fit. `rest` is what is left of word k. High is asked of each position, so that no word but the first is cut: that is why the words are not taken by a `for`.
+pub(crate) fn fill<S: Select>(
     words: &[u64],
     other: &[u64],
-    selection: Selection,
     low: usize,
     high: usize,
     out: &mut [u64],
     from: usize,
 ) -> Filled
     requires { high ≤ length words.now * 64 }
-    ensures { fill_outcome result out.new ≡ filled (λ (p : ℕ). selected selection (bit_of words.now p) (bit_of other.now p)) high from low out.old }
+    ensures { fill_outcome result out.new ≡ filled (λ (p : ℕ). selected S.selection (bit_of words.now p) (bit_of other.now p)) high from low out.old }
 {
     if high <= low {
         return Filled { count: from, low };
@@ -27,7 +26,7 @@ fn fill(
     let end = (high - 1) / 64 + 1;
     let bit = low % 64;
     let mut k = low / 64;
-    let mut rest = select_word(words[k], block(other, k), selection) & (u64::MAX << bit);
+    let mut rest = S::word(words[k], block(other, k)) & (u64::MAX << bit);
     let mut count = from;
     let mut low = low;
     loop {
@@ -48,35 +47,6 @@ fn fill(
         if end <= k {
             return Filled { count, low };
         }
-        rest = select_word(words[k], block(other, k), selection);
-    }
-}
-
-// The same, with a loop of its own for each selection: the compiler makes one where the selection is a constant.
-pub(crate) fn fill_selected(
-    words: &[u64],
-    other: &[u64],
-    selection: Selection,
-    low: usize,
-    high: usize,
-    out: &mut [u64],
-    from: usize,
-) -> Filled
-    requires { high ≤ length words.now * 64 }
-    ensures { fill_outcome result out.new ≡ filled (λ (p : ℕ). selected selection (bit_of words.now p) (bit_of other.now p)) high from low out.old }
-{
-    match selection {
-        Selection::Ones => fill(words, other, Selection::Ones, low, high, out, from),
-        Selection::Zeroes => fill(words, other, Selection::Zeroes, low, high, out, from),
-        Selection::Intersection => fill(
-            words,
-            other,
-            Selection::Intersection,
-            low,
-            high,
-            out,
-            from,
-        ),
-        Selection::Difference => fill(words, other, Selection::Difference, low, high, out, from),
+        rest = S::word(words[k], block(other, k));
     }
 }

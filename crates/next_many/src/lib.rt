@@ -6,7 +6,7 @@ mod fill;
 mod one_part;
 mod two_parts;
 
-pub use answers::{NextMany, NextManyPair};
+pub use answers::{Many, ManyPair, NextMany, NextManyPair};
 pub use one_part::{
     difference_next_many, intersection_next_many, ones_next_many, zeroes_next_many,
 };

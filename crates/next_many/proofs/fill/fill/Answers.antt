@@ -15,94 +15,95 @@ use Rattle.next_many.proofs.BufferLaws.{filled_over}
 use Rattle.next_many.proofs.FillLaws.{Filling, filling_start, filling_word, filling_over, filling_full, filling_past, filling_position, filling_in, filling_out, lowest_lt, lowest_le}
 use Rattle.next_many.proofs.fill.fill.Goals as goal
 use Rattle.next_many.proofs.fill.fill.Goals.{After-trailing_zeros, At-loop-rest-2, Else-high-low, Else-out-count}
+use Rattle.next_many.proofs.fill.fill.Given.{Over}
 
-fit : (c : Else-high-low) (k : ℕ) → selected_word c.args.selection c.args.words.now c.args.other.now k < 2 ^ 64
-fit c k =
-    select_lt _ _ (c.shared_slice_known-1.given k).fits (c.shared_slice_known-2-1.given k).fits c.args.selection
+fit : (g : Over) (c : Else-high-low g) (k : ℕ) → selected_word g.S.Select.selection c.args.words.now c.args.other.now k < 2 ^ 64
+fit g c k =
+    select_lt _ _ (c.shared_slice_known-1.given k).fits (c.shared_slice_known-2-1.given k).fits g.S.Select.selection
 
 -- the selected positions are the bits of the selected words
-by_words : (c : Else-high-low) {r : FillOutcome}
-    → r ≡ filled (row (selected_word c.args.selection c.args.words.now c.args.other.now)) c.args.high c.args.from c.args.low c.args.out.now
-    → r ≡ filled (λ (p : ℕ). selected c.args.selection (bit_of c.args.words.now p) (bit_of c.args.other.now p)) c.args.high c.args.from c.args.low c.args.out.now
-by_words c e =
+by_words : (g : Over) (c : Else-high-low g) {r : FillOutcome}
+    → r ≡ filled (row (selected_word g.S.Select.selection c.args.words.now c.args.other.now)) c.args.high c.args.from c.args.low c.args.out.now
+    → r ≡ filled (λ (p : ℕ). selected g.S.Select.selection (bit_of c.args.words.now p) (bit_of c.args.other.now p)) c.args.high c.args.from c.args.low c.args.out.now
+by_words g c e =
     let a = c.args in
     e ∙ ap (λ (has : ℕ → Bool). filled has a.high a.from a.low a.out.now)
-    (fun_ext (λ p. select_row a.selection a.words.now a.other.now (λ k. (c.shared_slice_known-1.given k).fits) (λ k. (c.shared_slice_known-2-1.given k).fits) p))
+    (fun_ext (λ p. select_row g.S.Select.selection a.words.now a.other.now (λ k. (c.shared_slice_known-1.given k).fits) (λ k. (c.shared_slice_known-2-1.given k).fits) p))
 
 -- the lowest position of what is left of the word
-below_64 : (c : After-trailing_zeros) → c.trailing_zeros.result < 64
-below_64 c = rw c.trailing_zeros.ensures (lowest_lt _ _ _ _ c.loop-rest-2.invariant c.loop-rest-2-test.true)
+below_64 : (g : Over) (c : After-trailing_zeros g) → c.trailing_zeros.result < 64
+below_64 g c = rw c.trailing_zeros.ensures (lowest_lt _ _ _ _ c.loop-rest-2.invariant c.loop-rest-2-test.true)
 
-from_low : (c : Else-out-count)
+from_low : (g : Over) (c : Else-out-count g)
     → c.loop-rest-2.low ≤ c.loop-rest.k * 64 + c.trailing_zeros.result
-from_low c = rw c.trailing_zeros.ensures (lowest_le _ _ _ _ c.loop-rest-2.invariant c.loop-rest-2-test.true)
+from_low g c = rw c.trailing_zeros.ensures (lowest_le _ _ _ _ c.loop-rest-2.invariant c.loop-rest-2-test.true)
 
 -- what the inner loop has kept, of the whole
-through : (c : At-loop-rest-2)
+through : (g : Over) (c : At-loop-rest-2 g)
     → let a = c.args in
-    Filling (selected_word a.selection a.words.now a.other.now) a.high (filled (row (selected_word a.selection a.words.now a.other.now)) a.high a.from a.low a.out.now) (length a.out.now)
+    Filling (selected_word g.S.Select.selection a.words.now a.other.now) a.high (filled (row (selected_word g.S.Select.selection a.words.now a.other.now)) a.high a.from a.low a.out.now) (length a.out.now)
     c.loop-rest.k c.loop-rest-2.rest c.loop-rest-2.count c.loop-rest-2.low c.loop-rest-2.out
-through c = filling_out _ _ _ _ c.loop-rest.invariant c.loop-rest-2.invariant
+through g c = filling_out _ _ _ _ c.loop-rest.invariant c.loop-rest-2.invariant
 
 pub returns-then-high-low : goal.returns-then-high-low
-returns-then-high-low c =
+returns-then-high-low g c =
     let a = c.args in
     sym (filled_over _ a.high a.from a.low a.out.now (λ p l h. absurd (omega (arith, c.if-high-low.true))))
 
 pub bounds-words-k : goal.bounds-words-k
-bounds-words-k c = omega (arith, c.requires, c.if-high-low.false)
+bounds-words-k g c = omega (arith, c.requires, c.if-high-low.false)
 
 pub loop-rest-init : goal.loop-rest-init
-loop-rest-init c =
+loop-rest-init g c =
     let low = c.args.low in
-    filling_start _ _ _ _ (fit (goal.at.loop-rest-init c).Else-high-low (low / 64)) c.if-high-low.false
-    (ap₂ bit_and (c.select_word.ensures ∙ ap (select_word _ _) c.block.ensures) (shifted_up (low % 64) (omega arith))) refl refl
+    filling_start _ _ _ _ (fit g (goal.at.loop-rest-init g c).Else-high-low (low / 64)) c.if-high-low.false
+    (ap₂ bit_and (c.word.ensures ∙ ap (select_word g.S.Select.selection _) c.block.ensures) (shifted_up (low % 64) (omega arith))) refl refl
 
 pub loop-rest-2-init : goal.loop-rest-2-init
-loop-rest-2-init c = filling_in _ _ _ _ c.loop-rest.invariant
+loop-rest-2-init g c = filling_in _ _ _ _ c.loop-rest.invariant
 
 pub overflow_mul-p : goal.overflow_mul-p
-overflow_mul-p c = omega (arith, c.loop-rest-2.invariant.inside)
+overflow_mul-p g c = omega (arith, c.loop-rest-2.invariant.inside)
 
 pub overflow_add-p : goal.overflow_add-p
-overflow_add-p c = omega (arith, below_64 (goal.at.overflow_add-p c).After-trailing_zeros, c.loop-rest-2.invariant.inside)
+overflow_add-p g c = omega (arith, below_64 g (goal.at.overflow_add-p g c).After-trailing_zeros, c.loop-rest-2.invariant.inside)
 
 pub shape_of-out-then-high-p : goal.shape_of-out-then-high-p
-shape_of-out-then-high-p c = (through (goal.at.shape_of-out-then-high-p c).At-loop-rest-2).same
+shape_of-out-then-high-p g c = (through g (goal.at.shape_of-out-then-high-p g c).At-loop-rest-2).same
 
 pub returns-then-high-p : goal.returns-then-high-p
-returns-then-high-p c =
-    by_words (goal.at.returns-then-high-p c).Else-high-low (filling_past _ _ _ _ (through (goal.at.returns-then-high-p c).At-loop-rest-2) c.loop-rest-2-test.true (rw (← c.trailing_zeros.ensures) c.if-high-p.true))
+returns-then-high-p g c =
+    by_words g (goal.at.returns-then-high-p g c).Else-high-low (filling_past _ _ _ _ (through g (goal.at.returns-then-high-p g c).At-loop-rest-2) c.loop-rest-2-test.true (rw (← c.trailing_zeros.ensures) c.if-high-p.true))
 
 pub shape_of-out-then-out-count : goal.shape_of-out-then-out-count
-shape_of-out-then-out-count c = (through (goal.at.shape_of-out-then-out-count c).At-loop-rest-2).same
+shape_of-out-then-out-count g c = (through g (goal.at.shape_of-out-then-out-count g c).At-loop-rest-2).same
 
 pub returns-then-out-count : goal.returns-then-out-count
-returns-then-out-count c =
-    by_words (goal.at.returns-then-out-count c).Else-high-low (filling_full _ _ _ _ (through (goal.at.returns-then-out-count c).At-loop-rest-2) c.if-out-count.true)
+returns-then-out-count g c =
+    by_words g (goal.at.returns-then-out-count g c).Else-high-low (filling_full _ _ _ _ (through g (goal.at.returns-then-out-count g c).At-loop-rest-2) c.if-out-count.true)
 
 pub loop-rest-2-smaller : goal.loop-rest-2-smaller
-loop-rest-2-smaller c = omega (arith, from_low (goal.at.loop-rest-2-smaller c).Else-out-count, c.if-high-p.false)
+loop-rest-2-smaller g c = omega (arith, from_low g (goal.at.loop-rest-2-smaller g c).Else-out-count, c.if-high-p.false)
 
 pub loop-rest-2-preserved : goal.loop-rest-2-preserved
-loop-rest-2-preserved c =
+loop-rest-2-preserved g c =
     filling_position _ _ _ _ c.loop-rest-2.invariant c.loop-rest-2-test.true (ap (λ (t : ℕ). c.loop-rest.k * 64 + t) c.trailing_zeros.ensures) c.if-high-p.false c.if-out-count.false
 
 pub overflow_add-k : goal.overflow_add-k
-overflow_add-k c = omega (arith, c.loop-rest-2.invariant.inside)
+overflow_add-k g c = omega (arith, c.loop-rest-2.invariant.inside)
 
 pub shape_of-out-then-end-k : goal.shape_of-out-then-end-k
-shape_of-out-then-end-k c = (through (goal.at.shape_of-out-then-end-k c).At-loop-rest-2).same
+shape_of-out-then-end-k g c = (through g (goal.at.shape_of-out-then-end-k g c).At-loop-rest-2).same
 
 pub returns-then-end-k : goal.returns-then-end-k
-returns-then-end-k c =
-    by_words (goal.at.returns-then-end-k c).Else-high-low (filling_over _ _ _ _ (through (goal.at.returns-then-end-k c).At-loop-rest-2) c.loop-rest-2-test.false c.if-end-k.true)
+returns-then-end-k g c =
+    by_words g (goal.at.returns-then-end-k g c).Else-high-low (filling_over _ _ _ _ (through g (goal.at.returns-then-end-k g c).At-loop-rest-2) c.loop-rest-2-test.false c.if-end-k.true)
 
 pub bounds-words-k-in-loop-rest : goal.bounds-words-k-in-loop-rest
-bounds-words-k-in-loop-rest c =
+bounds-words-k-in-loop-rest g c =
     omega (arith, c.requires, c.if-high-low.false, c.if-end-k.false)
 
 pub loop-rest-preserved : goal.loop-rest-preserved
-loop-rest-preserved c =
-    filling_word _ _ _ _ (through (goal.at.loop-rest-preserved c).At-loop-rest-2) c.loop-rest-2-test.false (fit (goal.at.loop-rest-preserved c).Else-high-low (c.loop-rest.k + 1)) c.if-end-k.false
-    (c.select_word-rest.ensures ∙ ap (select_word _ _) c.block-in-loop-rest.ensures)
+loop-rest-preserved g c =
+    filling_word _ _ _ _ (through g (goal.at.loop-rest-preserved g c).At-loop-rest-2) c.loop-rest-2-test.false (fit g (goal.at.loop-rest-preserved g c).Else-high-low (c.loop-rest.k + 1)) c.if-end-k.false
+    (c.word-rest.ensures ∙ ap (select_word g.S.Select.selection _) c.block-in-loop-rest.ensures)

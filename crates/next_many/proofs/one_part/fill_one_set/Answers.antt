@@ -1,15 +1,28 @@
-use mathlib.Core.Path.{sym, ◌∙◌}
-use Rattle.sets.proofs.OutcomeLaws.{given_no, given_yes}
-use Rattle.sets.proofs.QuestionLaws.{first-both}
+use mathlib.Core.Path.{sym, ap, ◌∙◌}
+use lib.ListN.{length}
+use Rattle.sets.specs.Members.{Members}
+use Rattle.sets.proofs.OutcomeLaws.{given_yes}
+use Rattle.sets.proofs.QuestionLaws.{first-yes}
+use Rattle.walks.specs.Helpers.{chosen}
+use Rattle.walks.proofs.WalkLaws.{first_number}
+use Rattle.next_many.specs.Many.{front_steps}
+use Rattle.next_many.specs.Rules.{written}
+use Rattle.next_many.proofs.CallLaws.{part_room, many_refused}
 use Rattle.next_many.proofs.one_part.fill_one_set.Goals as goal
 
-pub returns-then-number-ne0 : goal.returns-then-number-ne0
-returns-then-number-ne0 c = given_no (λ m. record { number = m; count = 0; part = _; out = _ }) _ c.check_part-number.ensures c.if-number-ne0.true
+pub returns-in_err-checked : goal.returns-in_err-checked
+returns-in_err-checked g c = many_refused _ _ _ _ _ c.from_residual.ensures.1 (first_number _ _ c.in_err-checked.ensures.number)
+
+pub returns-in_err-ask_part : goal.returns-in_err-ask_part
+returns-in_err-ask_part g c =
+    many_refused _ _ _ _ _ c.from_residual-in_err-ask_part.ensures.1 (first-yes (sym c.in_ok-checked.ensures.number) c.in_err-ask_part.ensures)
 
 pub fill_part-requires : goal.fill_part-requires
-fill_part-requires c =
-    let q = first-both _ _ (sym c.check_part-number.ensures ∙ c.if-number-ne0.false) in
-    (q.0, q.0, q.1)
+fill_part-requires g c = part_room c.in_ok-checked.checked c.args.words.now c.args.set c.args.part c.in_ok-checked.ensures.same c.in_ok-ask_part.ensures
 
 pub returns : goal.returns
-returns c = given_yes _ (sym c.if-number-ne0.false ∙ c.check_part-number.ensures) c.fill_part.ensures
+returns g c =
+    let a = c.args in
+    given_yes _ (first-yes (sym c.in_ok-checked.ensures.number) c.in_ok-ask_part.ensures)
+    (c.fill_part.ensures
+    ∙ ap (λ (x : Members). written a.out.now (front_steps (length a.out.now) (chosen g.S.Select.selection x x) a.part)) c.in_ok-checked.ensures.same)

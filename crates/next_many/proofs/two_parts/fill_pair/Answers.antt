@@ -1,62 +1,47 @@
-use mathlib.Core.Path.{sym, ap, ◌∙◌}
+use mathlib.Core.Path.{sym, ap, ap₂, ◌∙◌}
 use mathlib.Core.Bool.{Bool}
-use Prim.Native.Nat.{ℕ, ◌≤◌}
-use native.Mathlib.Omega.{arith}
+use Prim.Native.Nat.{ℕ}
 use lib.ListN.{length}
-use lib.Seq.{length-take-le}
-use Rattle.sets.proofs.OutcomeLaws.{given_no, given_yes}
-use Rattle.sets.proofs.RangeQuestionLaws.{PairAccepted, pair_accepted}
-use Rattle.parts.specs.declared.records.Selection.TheVariants.{Difference}
+use Rattle.sets.specs.Members.{Members}
+use Rattle.sets.proofs.OutcomeLaws.{given_yes}
+use Rattle.sets.proofs.QuestionLaws.{first-yes}
+use Rattle.parts.specs.Selections.{Difference}
+use Rattle.walks.specs.Helpers.{chosen}
+use Rattle.walks.specs.Rules.{without}
+use Rattle.walks.proofs.WalkLaws.{first_number, own_chosen}
 use Rattle.next_many.specs.Helpers.{filled}
-use Rattle.next_many.proofs.CallLaws.{own_room, member_bits, pair_written}
+use Rattle.next_many.specs.Many.{front_pairs}
+use Rattle.next_many.specs.Rules.{written_pair}
+use Rattle.next_many.proofs.CallLaws.{own_room, part_room, pair_refused, pair_written}
 use Rattle.next_many.proofs.two_parts.fill_pair.Goals as goal
-use Rattle.next_many.proofs.two_parts.fill_pair.Goals.{After-blocks_of-others, Else-number-ne0}
 
-asked : (c : Else-number-ne0) → let a = c.args in PairAccepted a.a a.words.now a.b a.other.now a.one a.two
-asked c = pair_accepted _ _ _ _ _ _ (sym c.check_pair-number.ensures ∙ c.if-number-ne0.false)
+pub returns-in_err-both : goal.returns-in_err-both
+returns-in_err-both g c = pair_refused _ _ _ _ _ _ c.from_residual.ensures.1 (first_number _ _ c.in_err-both.ensures.number)
 
-asked_2 : (c : After-blocks_of-others) → let a = c.args in PairAccepted a.a a.words.now a.b a.other.now a.one a.two
-asked_2 c = pair_accepted _ _ _ _ _ _ (sym c.check_pair-number.ensures ∙ c.if-number-ne0.false)
+pub returns-in_err-ask_part : goal.returns-in_err-ask_part
+returns-in_err-ask_part g c =
+    pair_refused _ _ _ _ _ _ c.from_residual-in_err-ask_part.ensures.1 (first-yes (sym c.in_ok-both.ensures.number) (first_number _ _ c.in_err-ask_part.ensures))
 
--- each set has its own words
-own : (c : After-blocks_of-others) → c.blocks_of-own.result ≤ length c.args.words.now
-own c = omega (arith, (asked_2 c).sets.one.enough, c.blocks_of-own.ensures)
+pub returns-in_err-ask_part-2 : goal.returns-in_err-ask_part-2
+returns-in_err-ask_part-2 g c =
+    pair_refused _ _ _ _ _ _ c.from_residual-in_err-ask_part-2.ensures.1
+    (first-yes (sym c.in_ok-both.ensures.number) (first-yes (sym c.in_ok-ask_part.ensures) c.in_err-ask_part-2.ensures))
 
-others : (c : After-blocks_of-others) → c.blocks_of-others.result ≤ length c.args.other.now
-others c = omega (arith, (asked_2 c).sets.two.enough, c.blocks_of-others.ensures)
+pub fill-first-requires : goal.fill-first-requires
+fill-first-requires g c =
+    own_room c.in_ok-both.both.0 (part_room c.in_ok-both.both.0 c.args.words.now c.args.a c.args.one c.in_ok-both.ensures.same.0 c.in_ok-ask_part.ensures)
 
-pub returns-then-number-ne0 : goal.returns-then-number-ne0
-returns-then-number-ne0 c = given_no (λ m. record { number = m; count = 0; one = _; two = _; out = _ }) _ c.check_pair-number.ensures c.if-number-ne0.true
-
-pub slice_bounds-fill_selected-end : goal.slice_bounds-fill_selected-end
-slice_bounds-fill_selected-end c = sym (length-take-le _ _ (own (goal.at.slice_bounds-fill_selected-end c).After-blocks_of-others))
-
-pub slice_bounds-fill_selected-end-2 : goal.slice_bounds-fill_selected-end-2
-slice_bounds-fill_selected-end-2 c = sym (length-take-le _ _ (others (goal.at.slice_bounds-fill_selected-end-2 c).After-blocks_of-others))
-
-pub fill_selected-first-requires : goal.fill_selected-first-requires
-fill_selected-first-requires c =
-    own_room _ _ c.args.one (asked (goal.at.fill_selected-first-requires c).Else-number-ne0).sets.one (asked (goal.at.fill_selected-first-requires c).Else-number-ne0).first c.blocks_of-own.ensures
-
-pub slice_bounds-fill_selected-end-3 : goal.slice_bounds-fill_selected-end-3
-slice_bounds-fill_selected-end-3 c = sym (length-take-le _ _ (others (goal.at.slice_bounds-fill_selected-end-3 c).After-blocks_of-others))
-
-pub slice_bounds-fill_selected-end-4 : goal.slice_bounds-fill_selected-end-4
-slice_bounds-fill_selected-end-4 c = sym (length-take-le _ _ (own (goal.at.slice_bounds-fill_selected-end-4 c).After-blocks_of-others))
-
-pub fill_selected-second-requires : goal.fill_selected-second-requires
-fill_selected-second-requires c =
-    own_room _ _ c.args.two (asked (goal.at.fill_selected-second-requires c).Else-number-ne0).sets.two (asked (goal.at.fill_selected-second-requires c).Else-number-ne0).second c.blocks_of-others.ensures
+pub fill-second-requires : goal.fill-second-requires
+fill-second-requires g c =
+    own_room c.in_ok-both.both.1 (part_room c.in_ok-both.both.1 c.args.other.now c.args.b c.args.two c.in_ok-both.ensures.same.1 c.in_ok-ask_part-2.ensures)
 
 pub returns : goal.returns
-returns c =
+returns g c =
     let a = c.args in
-    let v = (asked (goal.at.returns c).Else-number-ne0).sets in
-    given_yes _ (sym c.if-number-ne0.false ∙ c.check_pair-number.ensures)
+    let both = c.in_ok-both.both in
+    let same = c.in_ok-both.ensures.same in
+    given_yes _ (first-yes (sym c.in_ok-both.ensures.number) (first-yes (sym c.in_ok-ask_part.ensures) c.in_ok-ask_part-2.ensures))
     (pair_written _ _ a.one a.two a.out.now
-    (c.fill_selected-first.ensures
-    ∙ ap (λ (has : ℕ → Bool). filled has a.one.high 0 a.one.low a.out.now)
-    (member_bits a.selection a.a a.words.now a.b a.other.now v.one v.two c.blocks_of-own.ensures c.blocks_of-others.ensures))
-    (c.fill_selected-second.ensures
-    ∙ ap (λ (has : ℕ → Bool). filled has a.two.high c.fill_selected-first.result.count a.two.low c.fill_selected-first.new.out)
-    (member_bits Difference a.b a.other.now a.a a.words.now v.two v.one c.blocks_of-others.ensures c.blocks_of-own.ensures)))
+    (c.fill-first.ensures ∙ ap (λ (has : ℕ → Bool). filled has a.one.high 0 a.one.low a.out.now) (own_chosen g.S.Select.selection both.0 both.1))
+    (c.fill-second.ensures ∙ ap (λ (has : ℕ → Bool). filled has a.two.high c.fill-first.result.count a.two.low c.fill-first.new.out) (own_chosen Difference both.1 both.0))
+    ∙ ap₂ (λ (x y : Members). written_pair a.out.now (front_pairs (length a.out.now) (chosen g.S.Select.selection x y) (without y x) a.one a.two)) same.0 same.1)
