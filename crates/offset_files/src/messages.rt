@@ -1,35 +1,35 @@
-ghost use Rattle.std.specs.Prelude.{◌≡◌};
-ghost use Rattle.byte_texts.specs.Texts.{written};
+#![tactic(auto, using(byte_texts::proofs::TextLaws::written_more), unfolding(byte_texts::specs::Ascii::ascii, crate::specs::Messages::wrong_count, crate::specs::Messages::repeat_text))]
+
+ghost use Rattle.byte_texts.specs.Growth.{Appended};
 ghost use Rattle.offset_files.specs.Messages.{repeat_text, wrong_count};
 
-use byte_texts::{append, append_decimal};
+use byte_texts::Text;
 use text_lines::append_place;
 
 // The numbers of a wrong last line.
-pub(crate) fn append_wrong_count(report: &mut [u8], at: usize, says: usize, names: usize) -> usize
-    ensures { record { end = result; out = report.new } ≡ written report.old at (wrong_count says names) }
+pub(crate) fn append_wrong_count(report: &mut Text, says: usize, names: usize)
+    ensures { Appended report.old report.new (wrong_count says names) }
 {
-    let a = append(report, at, b"says ");
-    let b = append_decimal(report, a, says as u64);
-    let c = append(report, b, b" offsets and names ");
-    append_decimal(report, c, names as u64)
+    report.append(b"says ");
+    report.append_decimal(says as u64);
+    report.append(b" offsets and names ");
+    report.append_decimal(names as u64);
 }
 
 // An offset that an earlier line named.
 pub(crate) fn append_repeat(
-    report: &mut [u8],
-    at: usize,
+    report: &mut Text,
     name: &[u8],
     line: usize,
     offset: usize,
     first: u64,
-) -> usize
-    ensures { record { end = result; out = report.new } ≡ written report.old at (repeat_text name.now line offset first) }
+)
+    ensures { Appended report.old report.new (repeat_text name.now line offset first) }
 {
-    let a = append_place(report, at, b"warning: ", name, line);
-    let b = append(report, a, b": offset ");
-    let c = append_decimal(report, b, offset as u64);
-    let d = append(report, c, b" was named on line ");
-    let e = append_decimal(report, d, first);
-    append(report, e, b"\n")
+    append_place(report, b"warning: ", name, line);
+    report.append(b": offset ");
+    report.append_decimal(offset as u64);
+    report.append(b" was named on line ");
+    report.append_decimal(first);
+    report.append(b"\n");
 }

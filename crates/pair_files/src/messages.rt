@@ -1,98 +1,79 @@
-ghost use Rattle.std.specs.Prelude.{◌≡◌};
-ghost use Rattle.byte_texts.specs.Texts.{written};
+#![tactic(auto, using(byte_texts::proofs::TextLaws::written_more), unfolding(byte_texts::specs::Ascii::ascii, crate::specs::Messages::wrong_count, crate::specs::Messages::named_text, crate::specs::Messages::beyond_text))]
+
+ghost use Rattle.byte_texts.specs.Growth.{Appended};
 ghost use Rattle.pair_files.specs.Messages.{named_text, beyond_text, named_fault, beyond_fault, faults_text, wrong_count};
 
-use byte_texts::{append, append_decimal};
+use byte_texts::Text;
 use text_lines::append_place;
 
 // The numbers of a wrong last line.
-pub(crate) fn append_wrong_count(report: &mut [u8], at: usize, says: usize, names: usize) -> usize
-    ensures { record { end = result; out = report.new } ≡ written report.old at (wrong_count says names) }
+pub(crate) fn append_wrong_count(report: &mut Text, says: usize, names: usize)
+    ensures { Appended report.old report.new (wrong_count says names) }
 {
-    let a = append(report, at, b"says ");
-    let b = append_decimal(report, a, says as u64);
-    let c = append(report, b, b" pairs and names ");
-    append_decimal(report, c, names as u64)
+    report.append(b"says ");
+    report.append_decimal(says as u64);
+    report.append(b" pairs and names ");
+    report.append_decimal(names as u64);
 }
 
 // An offset of a side that an earlier line named.
-fn append_named(
-    report: &mut [u8],
-    at: usize,
-    name: &[u8],
-    line: usize,
-    side: &[u8],
-    offset: usize,
-    first: u64,
-) -> usize
-    ensures { record { end = result; out = report.new } ≡ written report.old at (named_text name.now line side.now offset first) }
+fn append_named(report: &mut Text, name: &[u8], line: usize, side: &[u8], offset: usize, first: u64)
+    ensures { Appended report.old report.new (named_text name.now line side.now offset first) }
 {
-    let a = append_place(report, at, b"ERROR: ", name, line);
-    let b = append(report, a, side);
-    let c = append_decimal(report, b, offset as u64);
-    let d = append(report, c, b" was named on line ");
-    let e = append_decimal(report, d, first);
-    append(report, e, b"\n")
+    append_place(report, b"ERROR: ", name, line);
+    report.append(side);
+    report.append_decimal(offset as u64);
+    report.append(b" was named on line ");
+    report.append_decimal(first);
+    report.append(b"\n");
 }
 
 // A new offset that is not below the length.
-fn append_beyond(
-    report: &mut [u8],
-    at: usize,
-    name: &[u8],
-    line: usize,
-    offset: usize,
-    size: usize,
-) -> usize
-    ensures { record { end = result; out = report.new } ≡ written report.old at (beyond_text name.now line offset size) }
+fn append_beyond(report: &mut Text, name: &[u8], line: usize, offset: usize, size: usize)
+    ensures { Appended report.old report.new (beyond_text name.now line offset size) }
 {
-    let a = append_place(report, at, b"ERROR: ", name, line);
-    let b = append(report, a, b": new offset ");
-    let c = append_decimal(report, b, offset as u64);
-    let d = append(report, c, b" is not below the length ");
-    let e = append_decimal(report, d, size as u64);
-    append(report, e, b"\n")
+    append_place(report, b"ERROR: ", name, line);
+    report.append(b": new offset ");
+    report.append_decimal(offset as u64);
+    report.append(b" is not below the length ");
+    report.append_decimal(size as u64);
+    report.append(b"\n");
 }
 
 // The offset's fault, if its word of the table says that it was named.
+#[tactic(auto, using(byte_texts::proofs::TextLaws::written_more), unfolding(crate::specs::Messages::named_fault))]
 fn append_named_fault(
-    report: &mut [u8],
-    at: usize,
+    report: &mut Text,
     name: &[u8],
     line: usize,
     side: &[u8],
     offset: usize,
     word: u64,
-) -> usize
-    ensures { record { end = result; out = report.new } ≡ written report.old at (named_fault name.now line side.now offset word) }
+)
+    ensures { Appended report.old report.new (named_fault name.now line side.now offset word) }
 {
     if word == 0 {
-        return append(report, at, b"");
+        report.append(b"");
+    } else {
+        append_named(report, name, line, side, offset, word / 65536);
     }
-    append_named(report, at, name, line, side, offset, word / 65536)
 }
 
 // The new offset's fault, if it is not below the length.
-fn append_beyond_fault(
-    report: &mut [u8],
-    at: usize,
-    name: &[u8],
-    line: usize,
-    offset: usize,
-    size: usize,
-) -> usize
-    ensures { record { end = result; out = report.new } ≡ written report.old at (beyond_fault name.now line offset size) }
+#[tactic(auto, using(byte_texts::proofs::TextLaws::written_more), unfolding(crate::specs::Messages::beyond_fault))]
+fn append_beyond_fault(report: &mut Text, name: &[u8], line: usize, offset: usize, size: usize)
+    ensures { Appended report.old report.new (beyond_fault name.now line offset size) }
 {
     if offset < size {
-        return append(report, at, b"");
+        report.append(b"");
+    } else {
+        append_beyond(report, name, line, offset, size);
     }
-    append_beyond(report, at, name, line, offset, size)
 }
 
 // All faults of a pair.
 pub(crate) fn append_faults(
-    report: &mut [u8],
-    at: usize,
+    report: &mut Text,
     name: &[u8],
     line: usize,
     size: usize,
@@ -100,10 +81,10 @@ pub(crate) fn append_faults(
     new: usize,
     was: u64,
     came: u64,
-) -> usize
-    ensures { record { end = result; out = report.new } ≡ written report.old at (faults_text name.now line size old new was came) }
+)
+    ensures { Appended report.old report.new (faults_text name.now line size old new was came) }
 {
-    let a = append_named_fault(report, at, name, line, b": old offset ", old, was);
-    let b = append_named_fault(report, a, name, line, b": new offset ", new, came);
-    append_beyond_fault(report, b, name, line, new, size)
+    append_named_fault(report, name, line, b": old offset ", old, was);
+    append_named_fault(report, name, line, b": new offset ", new, came);
+    append_beyond_fault(report, name, line, new, size);
 }
