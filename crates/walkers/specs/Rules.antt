@@ -5,8 +5,7 @@ use Rattle.sets.specs.declared.fixed_bit_set.FixedBitSet.{FixedBitSet}
 use Rattle.parts.specs.declared.records.End.{End}
 use Rattle.parts.specs.declared.records.End.TheVariants.{Front, Back}
 use Rattle.sets.specs.declared.answers.Part.{Part}
-use Rattle.walks.specs.Rules.{ones_next_rule, ones_next_back_rule}
-use Rattle.walks.specs.declared.answers.Stepped.{Stepped}
+use Rattle.walks.specs.Rules.{Stepped, ones_next_rule, ones_next_back_rule}
 use Rattle.walkers.specs.declared.walker.Ones.{Ones}
 
 -- the set that a walker goes over

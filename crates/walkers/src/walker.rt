@@ -1,11 +1,10 @@
 ghost use Rattle.std.specs.Prelude.{◌≡◌};
-ghost use Rattle.walks.specs.Rules.{ones_next_rule, ones_next_back_rule};
+ghost use Rattle.walks.specs.Rules.{stepped_of, ones_next_rule, ones_next_back_rule};
 ghost use Rattle.walkers.specs.Rules.{walker_rule, first_walker, moved_walker, set_in, part_in};
 
-use crate::steps::step_from;
-use parts::End;
-use sets::{FixedBitSet, Part};
-use walks::Stepped;
+use parts::{End, Step};
+use sets::{FixedBitSet, Part, Refusal};
+use walks::{ones_next, ones_next_back};
 
 // What is left of the walk is from low up to high, as in a part's record.
 #[derive(Clone, Copy)]
@@ -16,6 +15,7 @@ pub struct Ones<'a> {
     pub high: usize,
 }
 
+// No `Iterator`: each step asks its questions, and a refusal has no place in an item.
 impl<'a> Ones<'a> {
     // Asks no question: each step asks them all.
     pub fn new(set: FixedBitSet, words: &'a [u64]) -> Ones<'a>
@@ -28,41 +28,48 @@ impl<'a> Ones<'a> {
             high: set.length,
         }
     }
-}
 
-// The walker with the record that a step gave.
-pub fn moved<'a>(walker: Ones<'a>, part: Part) -> Ones<'a>
-    ensures { result ≡ moved_walker walker.entry part }
-{
-    Ones {
-        words: walker.words,
-        length: walker.length,
-        low: part.low,
-        high: part.high,
+    // The walker with the record that a step gave.
+    pub fn moved(self, part: Part) -> Ones<'a>
+        ensures { result ≡ moved_walker self.entry part }
+    {
+        Ones {
+            low: part.low,
+            high: part.high,
+            ..self
+        }
+    }
+
+    fn step(self, end: End) -> Result<Step, Refusal>
+        ensures { stepped_of (part_in self.entry) result ≡ walker_rule (set_in self.entry) self.entry.words.now (part_in self.entry) end }
+    {
+        let set = FixedBitSet::new(self.length);
+        let part = Part {
+            low: self.low,
+            high: self.high,
+        };
+        match end {
+            End::Front => ones_next(set, self.words, part),
+            End::Back => ones_next_back(set, self.words, part),
+        }
+    }
+
+    pub fn next(self) -> Result<Step, Refusal>
+        ensures { stepped_of (part_in self.entry) result ≡ ones_next_rule (set_in self.entry) self.entry.words.now (part_in self.entry) }
+    {
+        self.step(End::Front)
+    }
+
+    pub fn next_back(self) -> Result<Step, Refusal>
+        ensures { stepped_of (part_in self.entry) result ≡ ones_next_back_rule (set_in self.entry) self.entry.words.now (part_in self.entry) }
+    {
+        self.step(End::Back)
     }
 }
 
-pub(crate) fn step<'a>(walker: Ones<'a>, end: End) -> Stepped
-    ensures { result ≡ walker_rule (set_in walker.entry) walker.entry.words.now (part_in walker.entry) end }
-{
-    step_from(end, walker.words, walker.length, walker.low, walker.high)
-}
-
-pub fn next<'a>(walker: Ones<'a>) -> Stepped
-    ensures { result ≡ ones_next_rule (set_in walker.entry) walker.entry.words.now (part_in walker.entry) }
-{
-    step(walker, End::Front)
-}
-
-pub fn next_back<'a>(walker: Ones<'a>) -> Stepped
-    ensures { result ≡ ones_next_back_rule (set_in walker.entry) walker.entry.words.now (part_in walker.entry) }
-{
-    step(walker, End::Back)
-}
-
 // One step of a walker over the set that stands at the record.
-pub fn walker_step(set: FixedBitSet, words: &[u64], part: Part, end: End) -> Stepped
-    ensures { result ≡ walker_rule set words.now part end }
+pub fn walker_step(set: FixedBitSet, words: &[u64], part: Part, end: End) -> Result<Step, Refusal>
+    ensures { stepped_of part result ≡ walker_rule set words.now part end }
 {
-    step(moved(Ones::new(set, words), part), end)
+    Ones::new(set, words).moved(part).step(end)
 }
