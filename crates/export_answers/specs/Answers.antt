@@ -1,10 +1,7 @@
 -- Answers as C takes them.
-use Rattle.std.specs.Prelude.{true, false}
+use Rattle.std.specs.Prelude.{true, false, ℕ, Option, Some, None}
 use Rattle.sets.specs.declared.answers.Found.{Found}
-use Rattle.std.specs.Prelude.{Option}
-use Rattle.std.specs.Prelude.{Some, None}
-use Rattle.walks.specs.declared.answers.Stepped.{Stepped}
-use Rattle.walks.specs.declared.answers.SteppedPair.{SteppedPair}
+use Rattle.walks.specs.Rules.{Stepped, SteppedPair}
 use Rattle.export_answers.specs.declared.answers.Place.{Place}
 use Rattle.export_answers.specs.declared.answers.FbsFound.{FbsFound}
 use Rattle.export_answers.specs.declared.answers.FbsStepped.{FbsStepped}
@@ -15,12 +12,12 @@ abbrev pub place_of : Option ℕ → Place
 place_of (Some p) = record { found = true; at = p }
 place_of None = record { found = false; at = 0 }
 
-unfoldable pub export_found : Found → FbsFound
+abbrev pub export_found : Found → FbsFound
 export_found r = record { number = r.number; found = (place_of r.at).found; at = (place_of r.at).at }
 
 -- the records of the parts are as the step left them
-unfoldable pub export_stepped : Stepped → FbsStepped
+abbrev pub export_stepped : Stepped → FbsStepped
 export_stepped r = record { number = r.number; found = (place_of r.at).found; at = (place_of r.at).at; part = r.part }
 
-unfoldable pub export_stepped_pair : SteppedPair → FbsSteppedPair
+abbrev pub export_stepped_pair : SteppedPair → FbsSteppedPair
 export_stepped_pair r = record { number = r.number; found = (place_of r.at).found; at = (place_of r.at).at; one = r.one; two = r.two }

@@ -1,8 +1,11 @@
 ghost use Rattle.std.specs.Prelude.{◌≡◌};
+ghost use Rattle.sets.specs.Refusals.{found_of};
+ghost use Rattle.walks.specs.Rules.{stepped_of, stepped_pair_of};
 ghost use Rattle.export_answers.specs.Answers.{place_of, export_found, export_stepped, export_stepped_pair};
 
-use sets::{Found, Part};
-use walks::{Stepped, SteppedPair};
+use parts::Step;
+use sets::{Part, Refusal};
+use walks::PairStep;
 
 // C has no enum with a field: in each answer a position or none is `found` and `at`, which is 0 where none is found.
 #[repr(C)]
@@ -54,56 +57,87 @@ struct Place {
     at: usize,
 }
 
-fn place_of(at: Option<usize>) -> Place
-    ensures { result ≡ place_of at }
-{
-    match at {
-        Some(p) => Place { found: true, at: p },
-        None => Place {
-            found: false,
-            at: 0,
-        },
+impl From<Option<usize>> for Place {
+    ghost from_gives = { λ a r. r ≡ place_of a };
+
+    fn from(at: Option<usize>) -> Place {
+        Place {
+            found: at.is_some(),
+            at: at.unwrap_or(0),
+        }
     }
 }
 
-pub fn found(answer: Found) -> FbsFound
-    ensures { result ≡ export_found answer }
-{
-    let at = answer.at;
-    let place = place_of(at);
-    FbsFound {
-        number: answer.number,
-        found: place.found,
-        at: place.at,
+impl From<Result<Option<usize>, Refusal>> for FbsFound {
+    ghost from_gives = { λ a r. r ≡ export_found (found_of a) };
+
+    fn from(answer: Result<Option<usize>, Refusal>) -> FbsFound {
+        match answer {
+            Ok(at) => {
+                let place = Place::from(at);
+                FbsFound {
+                    number: 0,
+                    found: place.found,
+                    at: place.at,
+                }
+            }
+            Err(refusal) => FbsFound {
+                number: refusal.into(),
+                found: false,
+                at: 0,
+            },
+        }
     }
 }
 
-pub fn stepped(answer: Stepped) -> FbsStepped
-    ensures { result ≡ export_stepped answer }
-{
-    let at = answer.at;
-    let part = answer.part;
-    let place = place_of(at);
-    FbsStepped {
-        number: answer.number,
-        found: place.found,
-        at: place.at,
-        part,
+impl FbsStepped {
+    // The record as handed in stands beside a refusal.
+    pub fn new(part: Part, answer: Result<Step, Refusal>) -> FbsStepped
+        ensures { result ≡ export_stepped (stepped_of part answer) }
+    {
+        match answer {
+            Ok(step) => {
+                let place = Place::from(step.at);
+                FbsStepped {
+                    number: 0,
+                    found: place.found,
+                    at: place.at,
+                    part: step.part,
+                }
+            }
+            Err(refusal) => FbsStepped {
+                number: refusal.into(),
+                found: false,
+                at: 0,
+                part,
+            },
+        }
     }
 }
 
-pub fn stepped_pair(answer: SteppedPair) -> FbsSteppedPair
-    ensures { result ≡ export_stepped_pair answer }
-{
-    let at = answer.at;
-    let one = answer.one;
-    let two = answer.two;
-    let place = place_of(at);
-    FbsSteppedPair {
-        number: answer.number,
-        found: place.found,
-        at: place.at,
-        one,
-        two,
+impl FbsSteppedPair {
+    // Both records as handed in stand beside a refusal.
+    pub fn new(one: Part, two: Part, answer: Result<PairStep, Refusal>) -> FbsSteppedPair
+        ensures { result ≡ export_stepped_pair (stepped_pair_of one two answer) }
+    {
+        match answer {
+            Ok(step) => {
+                let place = Place::from(step.at);
+                FbsSteppedPair {
+                    number: 0,
+                    found: place.found,
+                    at: place.at,
+                    one: step.one,
+                    two: step.two,
+                }
+            }
+            Err(refusal) => FbsSteppedPair {
+                number: refusal.into(),
+                found: false,
+                at: 0,
+                one,
+                two,
+            },
+        }
     }
 }

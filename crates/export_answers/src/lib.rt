@@ -3,6 +3,4 @@
 
 mod answers;
 
-pub use answers::{
-    FbsFound, FbsLonger, FbsSlice, FbsStepped, FbsSteppedPair, found, stepped, stepped_pair,
-};
+pub use answers::{FbsFound, FbsLonger, FbsSlice, FbsStepped, FbsSteppedPair};
