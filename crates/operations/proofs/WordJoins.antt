@@ -8,7 +8,7 @@ use lib.Dec.{lit<}
 use Rattle.word_bits.specs.Digits.{digit}
 use Rattle.word_bits.proofs.Digits.{digit-number, number_is, number_lt, digit_of_zero}
 use Rattle.word_bits.proofs.Operations.{digit_and, digit_or, digit-xor, digit_not}
-use Rattle.operations.specs.Operations.{joined, joined_word}
+use Rattle.operations.specs.Operations.{joined, joined_word, made_word}
 use Rattle.operations.specs.declared.operation.Operation.{Operation}
 use Rattle.operations.specs.declared.operation.Operation.TheVariants.{Union, Intersection, Difference, SymmetricDifference}
 
@@ -25,22 +25,15 @@ module _ (op : Operation) (a b : ℕ) where
   unfolding joined_word
   joined_is x h same = number_is 64 x (λ j. joined op (digit a j) (digit b j)) h same
 
--- ---- by the operations on words
+-- ---- by the operators on words
 
-module _ (a b : ℕ) (ha : a < 2 ^ 64) (hb : b < 2 ^ 64) where
-  pub union_word : bit_or a b ≡ joined_word Union a b
-  union_word = joined_is Union a b (bit_or a b) (or_lt 64 a b ha hb) (λ j l. digit_or a b j)
-
-  pub intersection_word : bit_and a b ≡ joined_word Intersection a b
-  intersection_word = joined_is Intersection a b (bit_and a b) (and_lt 64 a b ha hb) (λ j l. digit_and a b j)
-
-  pub difference_word : bit_and a (2 ^ 64 - 1 - b) ≡ joined_word Difference a b
-  difference_word =
-      joined_is Difference a b (bit_and a (2 ^ 64 - 1 - b)) (lt_of_le_of_lt (and_le_l a (2 ^ 64 - 1 - b)) ha)
-      (λ j l. digit_and a (2 ^ 64 - 1 - b) j ∙ ap (λ (t : Bool). digit a j && t) (digit_not 64 b j hb l))
-
-  pub symmetric_difference_word : bit_xor a b ≡ joined_word SymmetricDifference a b
-  symmetric_difference_word = joined_is SymmetricDifference a b (bit_xor a b) (xor_lt 64 a b ha hb) (λ j l. digit-xor a b j)
+pub word_by : (op : Operation) (a b : ℕ) → a < 2 ^ 64 → b < 2 ^ 64 → made_word op a b ≡ joined_word op a b
+word_by Union a b ha hb = joined_is Union a b (bit_or a b) (or_lt 64 a b ha hb) (λ j l. digit_or a b j)
+word_by Intersection a b ha hb = joined_is Intersection a b (bit_and a b) (and_lt 64 a b ha hb) (λ j l. digit_and a b j)
+word_by Difference a b ha hb =
+    joined_is Difference a b (bit_and a (2 ^ 64 - 1 - b)) (lt_of_le_of_lt (and_le_l a (2 ^ 64 - 1 - b)) ha)
+    (λ j l. digit_and a (2 ^ 64 - 1 - b) j ∙ ap (λ (t : Bool). digit a j && t) (digit_not 64 b j hb l))
+word_by SymmetricDifference a b ha hb = joined_is SymmetricDifference a b (bit_xor a b) (xor_lt 64 a b ha hb) (λ j l. digit-xor a b j)
 
 -- ---- with nothing on one side
 

@@ -71,16 +71,16 @@ words_count f d (x ∷ xs) =
 
 -- those of the words a..b
 pub words_between : (ws : List ℕ) (a b : ℕ) → a ≤ b → b ≤ length ws
-    → sum_by (λ w. count 64 (digit w)) (take (b - a) (drop a ws)) ≡ run (bit_of ws) (a * 64) ((b - a) * 64)
-unfolding row bit_of
+    → count (length (take (b - a) (drop a ws)) * 64) (bit_of (take (b - a) (drop a ws))) ≡ run (bit_of ws) (a * 64) ((b - a) * 64)
+unfolding bit_of
 words_between ws a b h e =
-    words_count (λ (w : ℕ). w) 0 (take (b - a) (drop a ws)) ∙ ap (λ (n : ℕ). count (n * 64) (row (λ k. get_or (take (b - a) (drop a ws)) k 0))) size
-    ∙ count_ext ((b - a) * 64) (row (λ k. get_or (take (b - a) (drop a ws)) k 0)) (λ j. bit_of ws (a * 64 + j)) at
+    ap (λ (n : ℕ). count (n * 64) (bit_of (take (b - a) (drop a ws)))) size
+    ∙ count_ext ((b - a) * 64) (bit_of (take (b - a) (drop a ws))) (λ j. bit_of ws (a * 64 + j)) at
   where
     size : length (take (b - a) (drop a ws)) ≡ b - a
     size = length-take-le (b - a) (drop a ws) (rw (length-drop a ws) (omega (arith, e)))
 
-    at : (j : ℕ) → j < (b - a) * 64 → row (λ k. get_or (take (b - a) (drop a ws)) k 0) j ≡ bit_of ws (a * 64 + j)
+    at : (j : ℕ) → j < (b - a) * 64 → bit_of (take (b - a) (drop a ws)) j ≡ bit_of ws (a * 64 + j)
     at j l =
         let q : a + j / 64 ≡ (a * 64 + j) / 64 = omega arith in
         let r : j % 64 ≡ (a * 64 + j) % 64 = omega arith in

@@ -1,6 +1,4 @@
 ghost use Rattle.std.specs.Prelude.{◌&&◌, ◌≡◌, ℕ, ◌*◌, ◌≤◌, length};
-ghost use Rattle.std.specs.List.{sum_by};
-ghost use Rattle.word_bits.specs.Digits.{digit};
 ghost use Rattle.word_bits.specs.Counts.{count};
 ghost use Rattle.masks.specs.Ranges.{covers};
 ghost use Rattle.sets.specs.Members.{bit_of};
@@ -10,10 +8,10 @@ ghost use Rattle.tests.specs.Rules.{count_ones_rule, count_zeroes_rule};
 use masks::Masks;
 use sets::{FixedBitSet, Refusal};
 
-// How many bits of the words are set.
-fn ones_between(words: &[u64]) -> usize
+// How many bits of the words are set: of at most 1,024, which is as many as a set has.
+pub fn ones_of_words(words: &[u64]) -> usize
     requires { length words.now ≤ 1024 }
-    ensures { result ≡ sum_by (λ (w : ℕ). count 64 (digit w)) words.now }
+    ensures { result ≡ count (length words.now * 64) (bit_of words.now) }
 {
     words.iter().map(|word| word_bits::count_ones(*word)).sum()
 }
@@ -33,7 +31,7 @@ fn ones_of(words: &[u64], start: usize, end: usize) -> usize
     if last <= first {
         return head;
     }
-    let middle = ones_between(&words[first + 1..last]);
+    let middle = ones_of_words(&words[first + 1..last]);
     head + middle + word_bits::count_ones(words[last] & masks.last_mask)
 }
 

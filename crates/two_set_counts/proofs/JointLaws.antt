@@ -10,10 +10,10 @@ use lib.ListN.{length}
 use Rattle.word_bits.specs.Counts.{count}
 use Rattle.word_bits.proofs.Ones.{count_add, count_ext, count_none, count-le}
 use Rattle.word_bits.proofs.Order.{lt-or-le}
-use Rattle.sets.specs.Members.{Members, words_of, bit_of, read}
-use Rattle.sets.specs.Questions.{questions, both_questions}
+use Rattle.sets.specs.Members.{Members, bit_of, read}
+use Rattle.sets.specs.Checks.{Sound}
 use Rattle.sets.specs.declared.fixed_bit_set.FixedBitSet.{FixedBitSet}
-use Rattle.sets.proofs.QuestionLaws.{valid_yes, both_valid}
+use Rattle.sets.proofs.QuestionLaws.{valid}
 use Rattle.sets.proofs.ReadLaws.{read_bit, read_clipped}
 use Rattle.sets.proofs.WordLaws.{words_hold}
 use Rattle.sets.proofs.WriteLaws.{Clipped}
@@ -74,38 +74,28 @@ module _ (op : Operation) (s o : Members) (cs : Clipped s) (co : Clipped o) wher
       ap (λ (x : ℕ). count c joined_at + x) (sym (beyond c (n - c) side refl)) ∙ sym (count_add c (n - c) joined_at)
       ∙ count_clip joined_at n (λ p h. ap₂ (joined op) (cs.above p (omega arith)) (co.above p (omega arith)) ∙ joined-none op) (c + (n - c)) (omega arith)
 
--- ---- two sets that pass questions 1 to 3, and the c words that both have
+-- ---- two sets that pass questions 1 to 3, with their own words
 
-module _ (op : Operation) (a : FixedBitSet) (ws : List ℕ) (b : FixedBitSet) (vs : List ℕ) (c : ℕ) where
-  pub record Common : Type 0 where
-    pub first : questions a ws ≡ 0
-    pub second : questions b vs ≡ 0
-    pub here : c ≤ length ws
-    pub there : c ≤ length vs
-    pub small : c ≤ 1024
-    pub parts : count (c * 64) (λ p. joined op (bit_of ws p) (bit_of vs p)) + ones_beyond op (c * 64) (read ws a) (read vs b) ≡ joint_ones op (read ws a) (read vs b)
-    pub bound : joint_ones op (read ws a) (read vs b) ≤ 65536
+module _ (op : Operation) (a : FixedBitSet) (ws : List ℕ) (b : FixedBitSet) (vs : List ℕ) (sa : Sound a.length ws) (sb : Sound b.length vs) where
+  -- how many words both have
+  shared : ℕ
+  shared = min (length ws) (length vs)
 
-  module _ (q : both_questions a ws b vs ≡ 0) (e : c ≡ min (words_of a.length) (words_of b.length)) where
-    side : (words_of a.length < words_of b.length) ⊎ (words_of b.length ≤ words_of a.length) → (a.length ≤ c * 64) ⊎ (b.length ≤ c * 64)
-    side (inl l) = inl (omega (arith, words_hold a.length))
-    side (inr l) = inr (omega (arith, words_hold b.length))
+  side : (length ws < length vs) ⊎ (length vs ≤ length ws) → (a.length ≤ shared * 64) ⊎ (b.length ≤ shared * 64)
+  unfolding shared
+  side (inl l) = inl (omega (arith, sa.own, words_hold a.length))
+  side (inr l) = inr (omega (arith, sb.own, words_hold b.length))
 
-    pub common : Common
-    unfolding read joined_at
-    common =
-        let v = both_valid a ws b vs q in
-        let n : ℕ = max a.length b.length in
-        record {
-          first = valid_yes a ws v.one;
-          second = valid_yes b vs v.two;
-          here = omega (arith, v.one.enough);
-          there = omega (arith, v.two.enough);
-          small = omega (arith, words_hold a.length, v.one.small);
-          parts =
-              ap (λ (x : ℕ). x + ones_beyond op (c * 64) (read ws a) (read vs b))
-              (count_ext (c * 64) (λ p. joined op (bit_of ws p) (bit_of vs p)) (λ p. joined op ((read ws a).has p) ((read vs b).has p))
-              (λ p l. ap₂ (joined op) (sym (read_bit a ws v.one p (omega arith))) (sym (read_bit b vs v.two p (omega arith)))))
-              ∙ two_parts op (read ws a) (read vs b) (read_clipped ws a) (read_clipped vs b) (c * 64) (side (lt-or-le (words_of a.length) (words_of b.length)));
-          bound = omega (arith, count-le n (λ p. joined op ((read ws a).has p) ((read vs b).has p)), v.one.small, v.two.small);
-        }
+  pub two_counts : count (min (length ws) (length vs) * 64) (λ p. joined op (bit_of ws p) (bit_of vs p)) + ones_beyond op (min (length ws) (length vs) * 64) (read ws a) (read vs b)
+      ≡ joint_ones op (read ws a) (read vs b)
+  unfolding joined_at shared read
+  two_counts =
+      ap (λ (x : ℕ). x + ones_beyond op (shared * 64) (read ws a) (read vs b))
+      (count_ext (shared * 64) (λ p. joined op (bit_of ws p) (bit_of vs p)) (λ p. joined op ((read ws a).has p) ((read vs b).has p))
+      (λ p l. ap₂ (joined op) (sym (read_bit a ws (valid a ws sa.asked) p (omega (arith, sa.own)))) (sym (read_bit b vs (valid b vs sb.asked) p (omega (arith, sb.own))))))
+      ∙ two_parts op (read ws a) (read vs b) (read_clipped ws a) (read_clipped vs b) (shared * 64) (side (lt-or-le (length ws) (length vs)))
+
+  pub joint-le : joint_ones op (read ws a) (read vs b) ≤ 65536
+  unfolding read
+  joint-le =
+      omega (arith, count-le (max a.length b.length) (λ p. joined op ((read ws a).has p) ((read vs b).has p)), (valid a ws sa.asked).small, (valid b vs sb.asked).small)

@@ -2,4 +2,3 @@ pub mod WordRows
 pub mod RestLaws
 pub mod JointLaws
 pub mod ListLaws
-pub mod CountRules

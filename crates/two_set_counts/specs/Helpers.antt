@@ -1,21 +1,13 @@
 -- Definitions that only the helpers' contracts use.
-use Rattle.std.specs.Prelude.{true, false, cond, List, ℕ, ◌+◌, ◌-◌, max}
+use Rattle.std.specs.Prelude.{true, false, cond, ℕ, ◌+◌, ◌-◌, max}
 use Rattle.word_bits.specs.Counts.{count}
-use Rattle.sets.specs.Members.{Members, read}
-use Rattle.sets.specs.Outcomes.{counted}
-use Rattle.sets.specs.declared.fixed_bit_set.FixedBitSet.{FixedBitSet}
-use Rattle.sets.specs.declared.answers.Counted.{Counted}
+use Rattle.sets.specs.Members.{Members}
 use Rattle.operations.specs.Operations.{joined}
-use Rattle.sets.specs.Questions.{both_questions}
 use Rattle.operations.specs.declared.operation.Operation.{Operation}
 
 -- how many members two joined sets have
 abbrev pub joint_ones : Operation → Members → Members → ℕ
 joint_ones op s o = count (max s.len o.len) (λ p. joined op (s.has p) (o.has p))
-
--- the number of the questions first
-abbrev pub joint_count_rule : FixedBitSet → List ℕ → FixedBitSet → List ℕ → Operation → Counted
-joint_count_rule a ws b vs op = counted (both_questions a ws b vs) (joint_ones op (read ws a) (read vs b))
 
 -- how many members are at `start` or above it
 abbrev pub ones_from : ℕ → Members → ℕ

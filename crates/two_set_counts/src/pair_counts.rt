@@ -1,55 +1,58 @@
 ghost use Rattle.std.specs.Prelude.{◌≡◌};
-ghost use Rattle.two_set_counts.specs.Helpers.{joint_count_rule};
+ghost use Rattle.sets.specs.CheckedSets.{members};
+ghost use Rattle.sets.specs.Refusals.{counted_of};
+ghost use Rattle.two_set_counts.specs.Helpers.{joint_ones};
 ghost use Rattle.two_set_counts.specs.Rules.{union_count_rule, intersection_count_rule, difference_count_rule, symmetric_difference_count_rule};
 
 use crate::common::ones_common;
 use crate::rests::ones_beyond;
-use blocks::lesser;
 use operations::Operation;
-use sets::{Counted, FixedBitSet, blocks_of, check_both};
+use sets::{Checked, FixedBitSet, Refusal};
 
 // How many members the two sets joined have: those in the words of both, then those beyond.
-fn joint_count(
+fn joint_count(a: Checked, b: Checked, operation: Operation) -> usize
+    ensures { result ≡ joint_ones operation (members a.entry) (members b.entry) }
+{
+    ones_common(a.words, b.words, operation) + ones_beyond(a, b, operation)
+}
+
+// How many positions the walk `union` gives. Asks 1 to 3 of both sets.
+pub fn union_count(
     a: FixedBitSet,
     words: &[u64],
     b: FixedBitSet,
     other: &[u64],
-    operation: Operation,
-) -> Counted
-    ensures { result ≡ joint_count_rule a words.now b other.now operation }
+) -> Result<usize, Refusal>
+    ensures { counted_of result ≡ union_count_rule a words.now b other.now }
 {
-    let number = check_both(a, words, b, other);
-    if number != 0 {
-        return Counted { number, count: 0 };
-    }
-    let blocks = lesser(blocks_of(a.length), blocks_of(b.length));
-    let shared = ones_common(words, other, blocks, operation);
-    let rest = ones_beyond(a, words, b, other, blocks * 64, operation);
-    Counted {
-        number: 0,
-        count: shared + rest,
-    }
-}
-
-// How many positions the walk `union` gives. Asks 1 to 3 of both sets.
-pub fn union_count(a: FixedBitSet, words: &[u64], b: FixedBitSet, other: &[u64]) -> Counted
-    ensures { result ≡ union_count_rule a words.now b other.now }
-{
-    joint_count(a, words, b, other, Operation::Union)
+    let (a, b) = Checked::both(a, words, b, other)?;
+    Ok(joint_count(a, b, Operation::Union))
 }
 
 // How many positions the walk `intersection` gives. Asks 1 to 3 of both sets.
-pub fn intersection_count(a: FixedBitSet, words: &[u64], b: FixedBitSet, other: &[u64]) -> Counted
-    ensures { result ≡ intersection_count_rule a words.now b other.now }
+pub fn intersection_count(
+    a: FixedBitSet,
+    words: &[u64],
+    b: FixedBitSet,
+    other: &[u64],
+) -> Result<usize, Refusal>
+    ensures { counted_of result ≡ intersection_count_rule a words.now b other.now }
 {
-    joint_count(a, words, b, other, Operation::Intersection)
+    let (a, b) = Checked::both(a, words, b, other)?;
+    Ok(joint_count(a, b, Operation::Intersection))
 }
 
 // How many positions the walk `difference` gives. Asks 1 to 3 of both sets.
-pub fn difference_count(a: FixedBitSet, words: &[u64], b: FixedBitSet, other: &[u64]) -> Counted
-    ensures { result ≡ difference_count_rule a words.now b other.now }
+pub fn difference_count(
+    a: FixedBitSet,
+    words: &[u64],
+    b: FixedBitSet,
+    other: &[u64],
+) -> Result<usize, Refusal>
+    ensures { counted_of result ≡ difference_count_rule a words.now b other.now }
 {
-    joint_count(a, words, b, other, Operation::Difference)
+    let (a, b) = Checked::both(a, words, b, other)?;
+    Ok(joint_count(a, b, Operation::Difference))
 }
 
 // How many positions the walk `symmetric_difference` gives. Asks 1 to 3 of both sets.
@@ -58,8 +61,9 @@ pub fn symmetric_difference_count(
     words: &[u64],
     b: FixedBitSet,
     other: &[u64],
-) -> Counted
-    ensures { result ≡ symmetric_difference_count_rule a words.now b other.now }
+) -> Result<usize, Refusal>
+    ensures { counted_of result ≡ symmetric_difference_count_rule a words.now b other.now }
 {
-    joint_count(a, words, b, other, Operation::SymmetricDifference)
+    let (a, b) = Checked::both(a, words, b, other)?;
+    Ok(joint_count(a, b, Operation::SymmetricDifference))
 }

@@ -1,37 +1,28 @@
-ghost use Rattle.std.specs.Prelude.{◌≡◌};
-ghost use Rattle.sets.specs.Members.{read};
-ghost use Rattle.sets.specs.Questions.{questions};
+ghost use Rattle.std.specs.Prelude.{◌≡◌, ◌*◌, ◌≤◌, min, length};
+ghost use Rattle.sets.specs.CheckedSets.{members};
 ghost use Rattle.two_set_counts.specs.Helpers.{ones_from, ones_beyond};
 
-use blocks::lesser;
 use operations::Operation;
-use range_counts::count_ones;
-use sets::FixedBitSet;
+use range_counts::ones_of_words;
+use sets::Checked;
 
-// How many members of a set are at `start` or above it.
-fn ones_from(set: FixedBitSet, words: &[u64], start: usize) -> usize
-    requires { questions set words.now ≡ 0 }
-    ensures { result ≡ ones_from start (read words.now set) }
+// How many members of a set are in its words from number `first` on.
+fn ones_from(set: Checked, first: usize) -> usize
+    requires { first ≤ length set.words.now }
+    ensures { result ≡ ones_from (first * 64) (members set.entry) }
 {
-    count_ones(set, words, lesser(start, set.length), set.length).count
+    ones_of_words(&set.words[first..])
 }
 
-// How many members at `start` or above it the operation takes, where one of the two sets ends at `start`.
-pub(crate) fn ones_beyond(
-    a: FixedBitSet,
-    words: &[u64],
-    b: FixedBitSet,
-    other: &[u64],
-    start: usize,
-    operation: Operation,
-) -> usize
-    requires { (questions a words.now ≡ 0) × (questions b other.now ≡ 0) }
-    ensures { result ≡ ones_beyond operation start (read words.now a) (read other.now b) }
+// How many members in the words that one of the two sets alone has the operation takes.
+pub(crate) fn ones_beyond(a: Checked, b: Checked, operation: Operation) -> usize
+    ensures { result ≡ ones_beyond operation (min (length a.entry.words.now) (length b.entry.words.now) * 64) (members a.entry) (members b.entry) }
 {
+    let shared = a.words.len().min(b.words.len());
     match operation {
-        Operation::Union => ones_from(a, words, start) + ones_from(b, other, start),
+        Operation::Union => ones_from(a, shared) + ones_from(b, shared),
         Operation::Intersection => 0,
-        Operation::Difference => ones_from(a, words, start),
-        Operation::SymmetricDifference => ones_from(a, words, start) + ones_from(b, other, start),
+        Operation::Difference => ones_from(a, shared),
+        Operation::SymmetricDifference => ones_from(a, shared) + ones_from(b, shared),
     }
 }

@@ -1,7 +1,6 @@
 use mathlib.Core.Path.{ap, ◌∙◌}
 use Prim.Native.Nat.{ℕ}
 use lib.ListN.{get_or}
-use Rattle.std.proofs.Common.{rules}
 use Rattle.blocks.proofs.LoopLaws.{stored-none, stored_more, stored_rest, stored-swept}
 use native.Mathlib.Omega.{arith}
 use Rattle.operations.proofs.joins.join.Goals as goal
@@ -16,7 +15,7 @@ loop-k-preserved g c =
       omega arith,
       λ op made.
           stored_more _ _ (λ i. op (get_or a.words.now i 0) (get_or a.other.now i 0)) _ _ (inv.1 op made) _ (omega arith) (omega arith)
-          (made _ _ _ (search rules) (search rules) c.word.ensures
+          (made _ _ _ c.word.ensures
           ∙ ap (λ (w : ℕ). op w (get_or a.other.now c.loop-k.k 0)) (stored_rest _ _ (λ i. op (get_or a.words.now i 0) (get_or a.other.now i 0)) _ _ (inv.1 op made) _ (omega arith))),
     )
 

@@ -1,22 +1,25 @@
-use Rattle.operations.proofs.BlockJoins.{Words}
+use Rattle.std.proofs.Common.{rules}
+use Rattle.operations.specs.Operations.{made_word}
+use Rattle.operations.specs.declared.operation.Operation.TheVariants.{Union, Intersection, Difference, SymmetricDifference}
 use Rattle.two_set_counts.proofs.WordRows.{row_by}
 use Rattle.two_set_counts.proofs.common.ones_common.Goals as goal
-use Rattle.two_set_counts.proofs.common.ones_common.Goals.{After-shared_slice_known-1, After-shared_slice_known-2-1}
-
-words : (s : After-shared_slice_known-1) → Words s.args.words.now
-words s = record { fits = λ k. (s.shared_slice_known-1.given k).fits }
-
-others : (s : After-shared_slice_known-2-1) → Words s.args.other.now
-others s = record { fits = λ k. (s.shared_slice_known-2-1.given k).fits }
 
 pub returns-in-Union : goal.returns-in-Union
-returns-in-Union c = row_by c.in-Union.is (words (goal.at.returns-in-Union c).After-shared_slice_known-1) (others (goal.at.returns-in-Union c).After-shared_slice_known-2-1) _ c.ones_joined.ensures
+returns-in-Union c =
+    row_by c.in-Union.is (record { fits = λ k. (c.type_inv.words k).fits }) (record { fits = λ k. (c.type_inv.other k).fits }) _
+    (c.ones_joined.ensures (made_word Union) (λ a b r p. search rules))
 
 pub returns-in-Intersection : goal.returns-in-Intersection
-returns-in-Intersection c = row_by c.in-Intersection.is (words (goal.at.returns-in-Intersection c).After-shared_slice_known-1) (others (goal.at.returns-in-Intersection c).After-shared_slice_known-2-1) _ c.ones_joined-in-Intersection.ensures
+returns-in-Intersection c =
+    row_by c.in-Intersection.is (record { fits = λ k. (c.type_inv.words k).fits }) (record { fits = λ k. (c.type_inv.other k).fits }) _
+    (c.ones_joined-in-Intersection.ensures (made_word Intersection) (λ a b r p. search rules))
 
 pub returns-in-Difference : goal.returns-in-Difference
-returns-in-Difference c = row_by c.in-Difference.is (words (goal.at.returns-in-Difference c).After-shared_slice_known-1) (others (goal.at.returns-in-Difference c).After-shared_slice_known-2-1) _ c.ones_joined-in-Difference.ensures
+returns-in-Difference c =
+    row_by c.in-Difference.is (record { fits = λ k. (c.type_inv.words k).fits }) (record { fits = λ k. (c.type_inv.other k).fits }) _
+    (c.ones_joined-in-Difference.ensures (made_word Difference) (λ a b r p. search rules))
 
 pub returns-in-SymmetricDifference : goal.returns-in-SymmetricDifference
-returns-in-SymmetricDifference c = row_by c.in-SymmetricDifference.is (words (goal.at.returns-in-SymmetricDifference c).After-shared_slice_known-1) (others (goal.at.returns-in-SymmetricDifference c).After-shared_slice_known-2-1) _ c.ones_joined-in-SymmetricDifference.ensures
+returns-in-SymmetricDifference c =
+    row_by c.in-SymmetricDifference.is (record { fits = λ k. (c.type_inv.words k).fits }) (record { fits = λ k. (c.type_inv.other k).fits }) _
+    (c.ones_joined-in-SymmetricDifference.ensures (made_word SymmetricDifference) (λ a b r p. search rules))

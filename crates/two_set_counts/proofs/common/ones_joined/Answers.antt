@@ -1,40 +1,30 @@
 use mathlib.Core.Path.{◌≡◌, ap, ap₂, ◌∙◌}
-use Prim.Native.Nat.{ℕ, ◌+◌, ◌*◌}
+use Prim.Native.Nat.{ℕ, ◌+◌, ◌*◌, min}
+use lib.ListN.{length, get_or}
 use Rattle.word_bits.specs.Counts.{count}
 use Rattle.word_bits.specs.Digits.{digit, row}
 use Rattle.word_bits.proofs.Ones.{count-le, row-none, row_more}
 use native.Mathlib.Omega.{arith}
-use Rattle.two_set_counts.proofs.common.ones_joined.Invariants.{word_at}
 use Rattle.two_set_counts.proofs.common.ones_joined.Goals as goal
 
 pub loop-k-init : goal.loop-k-init
-loop-k-init c = (omega arith, row-none _)
-
-pub bounds-words-k : goal.bounds-words-k
-bounds-words-k c = omega arith
-
-pub bounds-other-k : goal.bounds-other-k
-bounds-other-k c = omega arith
+loop-k-init g c = (omega arith, λ op makes. row-none _)
 
 pub overflow_add-sum : goal.overflow_add-sum
-overflow_add-sum c =
-    let inv = c.loop-k.invariant in
-    let a = c.args in
-    let k = c.loop-k.k in
-    let f = word_at a.first a.second a.both a.words.now a.other.now in
-    omega (arith, inv.1, count-le (k * 64) (row f), c.count_ones-sum.ensures, count-le 64 (digit (f k)))
+overflow_add-sum g c = omega (arith, c.loop-k.invariant.0, c.count_ones-sum.ensures, count-le 64 (digit c.word.result))
 
 pub loop-k-preserved : goal.loop-k-preserved
-loop-k-preserved c =
+loop-k-preserved g c =
     let inv = c.loop-k.invariant in
-    let a = c.args in
-    let k = c.loop-k.k in
-    let f = word_at a.first a.second a.both a.words.now a.other.now in
-    (omega arith, ap₂ ◌+◌ inv.1 c.count_ones-sum.ensures ∙ row_more f k)
+    let a = c.args in (
+      omega (arith, inv.0, c.count_ones-sum.ensures, count-le 64 (digit c.word.result)),
+      λ op makes.
+          ap₂ ◌+◌ (inv.1 op makes) (c.count_ones-sum.ensures ∙ ap (λ (w : ℕ). count 64 (digit w)) (makes _ _ _ c.word.ensures))
+          ∙ row_more (λ i. op (get_or a.words.now i 0) (get_or a.other.now i 0)) c.loop-k.k,
+    )
 
 pub returns : goal.returns
-returns c =
-    let inv = c.loop-k.invariant in
+returns g c = λ op makes.
     let a = c.args in
-    let e : c.loop-k.k ≡ a.end = omega arith in
-    inv.1 ∙ ap (λ (n : ℕ). count (n * 64) (row (word_at a.first a.second a.both a.words.now a.other.now))) e
+    let e : c.loop-k.k ≡ min (length a.words.now) (length a.other.now) = omega arith in
+    c.loop-k.invariant.1 op makes ∙ ap (λ (n : ℕ). count (n * 64) (row (λ i. op (get_or a.words.now i 0) (get_or a.other.now i 0)))) e

@@ -1,5 +1,19 @@
-use Rattle.two_set_counts.proofs.CountRules.{difference_rule}
+use mathlib.Core.Path.{ap, ap₂, ◌∙◌}
+use Prim.Native.Nat.{ℕ}
+use Rattle.sets.proofs.OutcomeLaws.{given_yes}
+use Rattle.sets.proofs.ReadLaws.{read_clipped}
+use Rattle.sets.proofs.RefusalLaws.{answer_refused}
+use Rattle.operations.specs.declared.operation.Operation.TheVariants.{Difference}
+use Rattle.two_set_counts.specs.Helpers.{joint_ones}
+use Rattle.two_set_counts.proofs.ListLaws.{difference_size}
 use Rattle.two_set_counts.proofs.pair_counts.difference_count.Goals as goal
 
+pub returns-in_err-a : goal.returns-in_err-a
+returns-in_err-a c = answer_refused _ _ _ _ _ c.from_residual.ensures.1 c.in_err-a.ensures.number
+
 pub returns : goal.returns
-returns c = difference_rule _ _ _ _ c.joint_count.ensures
+returns c =
+    let same = c.in_ok-a.ensures.same in
+    given_yes _ c.in_ok-a.ensures.number
+    (ap (λ (n : ℕ). record { number = 0; count = n })
+    (c.joint_count.ensures ∙ ap₂ (joint_ones Difference) same.0 same.1 ∙ difference_size _ _ (read_clipped _ _)))

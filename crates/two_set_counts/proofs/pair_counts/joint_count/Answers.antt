@@ -1,55 +1,29 @@
-use mathlib.Core.Path.{◌≡◌, sym, ap, ap₂, ◌∙◌}
-use Prim.Native.Nat.{ℕ, ◌+◌, min}
-use Rattle.sets.specs.Members.{read}
-use Rattle.sets.specs.Questions.{both_questions}
-use Rattle.sets.proofs.OutcomeLaws.{given_no, given_yes}
+use mathlib.Core.Path.{◌≡◌, ap₂, ◌∙◌}
+use Prim.Native.Nat.{◌+◌}
+use Rattle.sets.specs.CheckedSets.{members}
 use Rattle.two_set_counts.specs.Helpers.{joint_ones}
-use Rattle.two_set_counts.proofs.JointLaws.{Common, common}
+use Rattle.two_set_counts.proofs.RestLaws.{few}
+use Rattle.two_set_counts.proofs.JointLaws.{two_counts, joint-le}
 use native.Mathlib.Omega.{arith}
 use Rattle.two_set_counts.proofs.pair_counts.joint_count.Goals as goal
-use Rattle.two_set_counts.proofs.pair_counts.joint_count.Goals.{After-lesser-blocks, After-ones_beyond-rest}
-
--- no question says no
-sound : (c : After-lesser-blocks)
-    → let a = c.args in
-    both_questions a.a a.words.now a.b a.other.now ≡ 0
-sound c = sym c.check_both-number.ensures ∙ c.if-number-ne0.false
-
-known : (c : After-lesser-blocks)
-    → let a = c.args in
-    Common a.operation a.a a.words.now a.b a.other.now c.lesser-blocks.result
-known c = common _ _ _ _ _ _ (sound c) (c.lesser-blocks.ensures ∙ ap₂ min c.blocks_of.ensures c.blocks_of-2.ensures)
-
-sound_2 : (c : After-ones_beyond-rest)
-    → let a = c.args in
-    both_questions a.a a.words.now a.b a.other.now ≡ 0
-sound_2 c = sym c.check_both-number.ensures ∙ c.if-number-ne0.false
-
-known_2 : (c : After-ones_beyond-rest)
-    → let a = c.args in
-    Common a.operation a.a a.words.now a.b a.other.now c.lesser-blocks.result
-known_2 c = common _ _ _ _ _ _ (sound_2 c) (c.lesser-blocks.ensures ∙ ap₂ min c.blocks_of.ensures c.blocks_of-2.ensures)
+use Rattle.two_set_counts.proofs.pair_counts.joint_count.Goals.{After-ones_beyond}
 
 -- the two parts are all
-whole : (c : After-ones_beyond-rest)
-    → let a = c.args in
-    c.ones_common-shared.result + c.ones_beyond-rest.result ≡ joint_ones a.operation (read a.words.now a.a) (read a.other.now a.b)
-whole c = ap₂ ◌+◌ c.ones_common-shared.ensures c.ones_beyond-rest.ensures ∙ (known_2 c).parts
+whole : (c : After-ones_beyond) → c.ones_common.result + c.ones_beyond.result ≡ joint_ones c.args.operation (members c.args.a) (members c.args.b)
+whole c =
+    let a = c.args.a in
+    let b = c.args.b in
+    ap₂ ◌+◌ c.ones_common.ensures c.ones_beyond.ensures
+    ∙ two_counts c.args.operation (record { length = a.length }) a.words.now (record { length = b.length }) b.words.now a.sound b.sound
 
-pub returns-then-number-ne0 : goal.returns-then-number-ne0
-returns-then-number-ne0 c = given_no _ _ c.check_both-number.ensures c.if-number-ne0.true
-
-pub ones_common-shared-requires : goal.ones_common-shared-requires
-ones_common-shared-requires c = let k = known (goal.at.ones_common-shared-requires c).After-lesser-blocks in (k.here, k.there, k.small)
-
-pub overflow_mul-blocks : goal.overflow_mul-blocks
-overflow_mul-blocks c = omega (arith, (known (goal.at.overflow_mul-blocks c).After-lesser-blocks).small)
-
-pub ones_beyond-rest-requires : goal.ones_beyond-rest-requires
-ones_beyond-rest-requires c = let k = known (goal.at.ones_beyond-rest-requires c).After-lesser-blocks in (k.first, k.second)
+pub ones_common-requires : goal.ones_common-requires
+ones_common-requires c = let a = c.args.a in few (record { length = a.length }) a.words.now a.sound
 
 pub overflow_add-result : goal.overflow_add-result
-overflow_add-result c = omega (arith, whole (goal.at.overflow_add-result c).After-ones_beyond-rest, (known (goal.at.overflow_add-result c).After-lesser-blocks).bound)
+overflow_add-result c =
+    let a = c.args.a in
+    let b = c.args.b in
+    omega (arith, whole (goal.at.overflow_add-result c).After-ones_beyond, joint-le c.args.operation (record { length = a.length }) a.words.now (record { length = b.length }) b.words.now a.sound b.sound)
 
 pub returns : goal.returns
-returns c = given_yes _ (sym (sound (goal.at.returns c).After-lesser-blocks)) (ap (λ (n : ℕ). record { number = 0; count = n }) (whole (goal.at.returns c).After-ones_beyond-rest))
+returns c = whole (goal.at.returns c).After-ones_beyond

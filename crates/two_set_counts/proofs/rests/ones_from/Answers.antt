@@ -1,13 +1,11 @@
-use mathlib.Core.Path.{ap, ◌∙◌}
-use Prim.Native.Nat.{ℕ}
-use Rattle.sets.specs.declared.answers.Counted.{Counted}
-use Rattle.tests.specs.Rules.{count_ones_rule}
-use Rattle.two_set_counts.proofs.RestLaws.{counted-from}
+use mathlib.Core.Path.{◌∙◌}
+use Rattle.std.proofs.Common.{length-take, length-drop}
+use Rattle.two_set_counts.proofs.RestLaws.{few, rest_ones}
+use native.Mathlib.Omega.{arith}
 use Rattle.two_set_counts.proofs.rests.ones_from.Goals as goal
 
+pub ones_of_words-requires : goal.ones_of_words-requires
+ones_of_words-requires c = let s = c.args.set in rw (length-take, length-drop) (omega (arith, few (record { length = s.length }) s.words.now s.sound))
+
 pub returns : goal.returns
-returns c =
-    let a = c.args in
-    ap (λ (r : Counted). r.count) c.count_ones.ensures
-    ∙ ap (λ (n : ℕ). (count_ones_rule a.set a.words.now n a.set.length).count) c.lesser.ensures
-    ∙ counted-from a.set a.words.now a.start c.requires
+returns c = let s = c.args.set in c.ones_of_words.ensures ∙ rest_ones (record { length = s.length }) s.words.now s.sound c.args.first c.requires
