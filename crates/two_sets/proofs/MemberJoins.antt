@@ -1,8 +1,8 @@
 -- Joined words are those of the joined members. Assumes nothing.
-use mathlib.Core.Path.{◌≡◌, sym, ap, ap₂, ◌∙◌}
+use mathlib.Core.Path.{◌≡◌, refl, sym, ap, ap₂, ◌∙◌}
 use mathlib.Core.List.{List}
 use mathlib.Core.Logic.{◌⊎◌, inl, inr}
-use Prim.Native.Nat.{ℕ, ◌+◌, ◌*◌, ◌≤◌, ◌<◌, max}
+use Prim.Native.Nat.{ℕ, ◌+◌, ◌*◌, ◌≤◌, ◌<◌}
 use native.Mathlib.Omega.{arith}
 use lib.ListN.{length, get_or}
 use Rattle.word_bits.specs.Digits.{digit}
@@ -10,15 +10,19 @@ use Rattle.word_bits.proofs.Digits.{digit_of_zero, word_is}
 use Rattle.word_bits.proofs.Order.{lt-or-le}
 use Rattle.masks.proofs.RangeLaws.{covers_above}
 use Rattle.blocks.specs.Sweeps.{swept}
-use Rattle.sets.specs.Members.{words_of, read, write}
-use Rattle.sets.specs.Questions.{both_questions, join_questions, room_question}
+use Rattle.sets.specs.Members.{Members, words_of, read, write, set_of, empty}
+use Rattle.sets.specs.Questions.{both_questions, room_question}
+use Rattle.sets.specs.CheckedSets.{members}
+use Rattle.sets.specs.Outcomes.{Outcome, edited}
+use Rattle.sets.specs.declared.checked.Checked.{Checked}
 use Rattle.sets.specs.declared.fixed_bit_set.FixedBitSet.{FixedBitSet}
 use Rattle.blocks.proofs.BlockLaws.{length-swept, swept_in, swept_out}
-use Rattle.sets.proofs.QuestionLaws.{Valid, first-both, both_valid, room, room_only}
+use Rattle.sets.proofs.QuestionLaws.{Valid, valid, first-yes}
 use Rattle.sets.proofs.ReadLaws.{read-digit, read_above}
 use Rattle.sets.proofs.WordLaws.{words_hold}
 use Rattle.sets.proofs.WriteLaws.{write_is}
 use Rattle.two_sets.specs.Combined.{combined}
+use Rattle.two_sets.specs.Rules.{third_buffer}
 use Rattle.operations.specs.Operations.{joined, joined_word, padded}
 use Rattle.operations.specs.declared.operation.Operation.{Operation}
 use Rattle.operations.proofs.BlockJoins.{padded_in, padded_out}
@@ -51,21 +55,33 @@ joined-write op {a} {ws} {b} {vs} va vb n out room =
     f : ℕ → ℕ → ℕ
     f k w = joined_word op (padded (words_of a.length) ws k) (padded (words_of b.length) vs k)
 
--- two sets, and a buffer for n bits, that pass the questions of a join
-pub record Joinable (a : FixedBitSet) (ws : List ℕ) (b : FixedBitSet) (vs : List ℕ) (n size : ℕ) : Type 0 where
-  pub passed : 0 ≡ join_questions a ws b vs n size
-  pub one : Valid a ws
-  pub two : Valid b vs
-  pub enough : words_of n ≤ size
+-- the second set by its own words
+pub joined_checked : (op : Operation) {a : FixedBitSet} {ws : List ℕ} → Valid a ws → (second : Checked) {o : Members} → members second ≡ o
+    → (n : ℕ) (out : List ℕ) → words_of n ≤ length out
+    → swept 0 (words_of n) (λ k w. joined_word op (padded (words_of a.length) ws k) (padded (length second.words.now) second.words.now k)) out
+    ≡ write out (combined op n (read ws a) o)
+joined_checked op {a} {ws} va second same n out room =
+    ap (λ (m : ℕ). swept 0 (words_of n) (λ k w. joined_word op (padded (words_of a.length) ws k) (padded m second.words.now k)) out) second.sound.own
+    ∙ joined-write op va (valid _ _ second.sound.asked) n out room ∙ ap (λ (m : Members). write out (combined op n (read ws a) m)) same
 
-pub joinable : (a : FixedBitSet) (ws : List ℕ) (b : FixedBitSet) (vs : List ℕ) (n size : ℕ) {m : ℕ} → n ≤ max a.length b.length
-    → m ≡ join_questions a ws b vs n size → m ≡ 0 → Joinable a ws b vs n size
-joinable a ws b vs n size h e z =
-    let q = first-both (both_questions a ws b vs) (room_question n size) (sym e ∙ z) in
-    let v = both_valid a ws b vs q.0 in
-    record {
-      passed = sym z ∙ e;
-      one = v.one;
-      two = v.two;
-      enough = (room n size (room_only n size (omega (arith, v.one.small, v.two.small)) ∙ q.1)).enough;
-    }
+-- both by theirs
+pub joined-both : (op : Operation) (one two : Checked) (n : ℕ) (out : List ℕ) → words_of n ≤ length out
+    → swept 0 (words_of n) (λ k w. joined_word op (padded (length one.words.now) one.words.now k) (padded (length two.words.now) two.words.now k)) out
+    ≡ write out (combined op n (members one) (members two))
+joined-both op one two n out room =
+    ap (λ (m : ℕ). swept 0 (words_of n) (λ k w. joined_word op (padded m one.words.now k) (padded (length two.words.now) two.words.now k)) out) one.sound.own
+    ∙ joined_checked op (valid _ _ one.sound.asked) two refl n out room
+
+-- a checked set is as long as the one that was checked
+pub same_length : (one : Checked) (a : FixedBitSet) (ws : List ℕ) → members one ≡ read ws a → one.length ≡ a.length
+unfolding read
+same_length one a ws same = ap (λ (m : Members). m.len) same
+
+-- the third buffer, once questions 1 to 3 of both sets are passed
+pub third_rule : (op : Operation) (a : FixedBitSet) (ws : List ℕ) (b : FixedBitSet) (vs : List ℕ) (one two : Checked) → 0 ≡ both_questions a ws b vs
+    → (members one ≡ read ws a) × (members two ≡ read vs b) → (n : ℕ) (out : List ℕ) {x : Outcome}
+    → x ≡ edited (room_question n (length out)) (set_of (empty 0)) out (combined op n (members one) (members two))
+    → x ≡ third_buffer a ws b vs n out (combined op n (read ws a) (read vs b))
+third_rule op a ws b vs one two sound same n out e =
+    e ∙ ap₂ (λ (s o : Members). edited (room_question n (length out)) (set_of (empty 0)) out (combined op n s o)) same.0 same.1
+    ∙ ap (λ (q : ℕ). edited q (set_of (empty 0)) out (combined op n (read ws a) (read vs b))) (first-yes (sym sound) refl)

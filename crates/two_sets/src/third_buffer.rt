@@ -1,42 +1,34 @@
-ghost use Rattle.std.specs.Prelude.{◌≡◌, ◌≤◌, max};
-ghost use Rattle.sets.specs.Members.{read};
-ghost use Rattle.sets.specs.Outcomes.{outcome};
+ghost use Rattle.std.specs.Prelude.{◌≡◌, ◌≤◌, max, length};
+ghost use Rattle.sets.specs.CheckedSets.{members};
+ghost use Rattle.sets.specs.Members.{set_of, empty};
+ghost use Rattle.sets.specs.Outcomes.{outcome, edited};
+ghost use Rattle.sets.specs.Questions.{room_question};
+ghost use Rattle.sets.specs.Refusals.{edited_of};
 ghost use Rattle.two_sets.specs.Combined.{combined};
-ghost use Rattle.two_sets.specs.Rules.{third_buffer, bitand_rule, bitor_rule, bitxor_rule};
+ghost use Rattle.two_sets.specs.Rules.{bitand_rule, bitor_rule, bitxor_rule};
 
-use crate::in_place::{ask_join, join_in_place};
-use blocks::{copy_blocks, larger, lesser};
+use crate::in_place::join_in_place;
+use blocks::copy_blocks;
 use operations::Operation;
-use sets::{Edited, FixedBitSet, blocks_of};
+use sets::{Checked, FixedBitSet, Refusal, blocks_of, check_new};
 
 // As many of the first set's words as the result has are copied, then joined in place with the second's.
 fn join_third(
-    a: FixedBitSet,
-    words: &[u64],
-    b: FixedBitSet,
-    other: &[u64],
+    one: Checked<'_>,
+    two: Checked<'_>,
     out: &mut [u64],
-    length: usize,
+    bits: usize,
     operation: Operation,
-) -> Edited
-    requires { length ≤ max a.length b.length }
-    ensures { outcome result out.new ≡ third_buffer a words.now b other.now length out.old (combined operation length (read words.now a) (read other.now b)) }
+) -> Result<FixedBitSet, Refusal>
+    requires { bits ≤ max one.length two.length }
+    ensures { outcome (edited_of (set_of (empty 0)) result) out.new ≡ edited (room_question bits (length out.old)) (set_of (empty 0)) out.old (combined operation bits (members one.entry) (members two.entry)) }
 {
-    let number = ask_join(a, words, b, other, length, out);
-    if number != 0 {
-        return Edited {
-            number,
-            set: FixedBitSet::new(0),
-        };
-    }
-    let total = blocks_of(length);
-    let copied = lesser(blocks_of(a.length), total);
-    copy_blocks(out, words, 0, copied);
-    join_in_place(out, copied, other, blocks_of(b.length), total, operation);
-    Edited {
-        number: 0,
-        set: FixedBitSet::new(length),
-    }
+    check_new(bits, out)?;
+    let total = blocks_of(bits);
+    let copied = one.words.len().min(total);
+    copy_blocks(out, one.words, 0, copied);
+    join_in_place(out, copied, two.words, total, operation);
+    Ok(FixedBitSet::new(bits))
 }
 
 // `a & b`: the intersection into a third buffer, of the smaller length. Asks 1 to 3 of both sets, then 7 of that length.
@@ -46,18 +38,12 @@ pub fn bitand(
     b: FixedBitSet,
     other: &[u64],
     out: &mut [u64],
-) -> Edited
-    ensures { outcome result out.new ≡ bitand_rule a words.now b other.now out.old }
+) -> Result<FixedBitSet, Refusal>
+    ensures { outcome (edited_of (set_of (empty 0)) result) out.new ≡ bitand_rule a words.now b other.now out.old }
 {
-    join_third(
-        a,
-        words,
-        b,
-        other,
-        out,
-        lesser(a.length, b.length),
-        Operation::Intersection,
-    )
+    let (one, two) = Checked::both(a, words, b, other)?;
+    let length = a.length.min(b.length);
+    join_third(one, two, out, length, Operation::Intersection)
 }
 
 // `a | b`: the union into a third buffer, of the larger length. Asks 1 to 3 of both sets, then 7 of that length.
@@ -67,18 +53,12 @@ pub fn bitor(
     b: FixedBitSet,
     other: &[u64],
     out: &mut [u64],
-) -> Edited
-    ensures { outcome result out.new ≡ bitor_rule a words.now b other.now out.old }
+) -> Result<FixedBitSet, Refusal>
+    ensures { outcome (edited_of (set_of (empty 0)) result) out.new ≡ bitor_rule a words.now b other.now out.old }
 {
-    join_third(
-        a,
-        words,
-        b,
-        other,
-        out,
-        larger(a.length, b.length),
-        Operation::Union,
-    )
+    let (one, two) = Checked::both(a, words, b, other)?;
+    let length = a.length.max(b.length);
+    join_third(one, two, out, length, Operation::Union)
 }
 
 // `a ^ b`: the symmetric difference into a third buffer, of the larger length. Asks 1 to 3 of both sets, then 7 of that length.
@@ -88,16 +68,10 @@ pub fn bitxor(
     b: FixedBitSet,
     other: &[u64],
     out: &mut [u64],
-) -> Edited
-    ensures { outcome result out.new ≡ bitxor_rule a words.now b other.now out.old }
+) -> Result<FixedBitSet, Refusal>
+    ensures { outcome (edited_of (set_of (empty 0)) result) out.new ≡ bitxor_rule a words.now b other.now out.old }
 {
-    join_third(
-        a,
-        words,
-        b,
-        other,
-        out,
-        larger(a.length, b.length),
-        Operation::SymmetricDifference,
-    )
+    let (one, two) = Checked::both(a, words, b, other)?;
+    let length = a.length.max(b.length);
+    join_third(one, two, out, length, Operation::SymmetricDifference)
 }

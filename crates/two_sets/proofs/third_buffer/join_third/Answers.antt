@@ -1,48 +1,48 @@
-use mathlib.Core.Path.{ap₂, ◌∙◌}
+use mathlib.Core.Path.{sym, ap₂, ◌∙◌}
 use mathlib.Core.List.{List}
-use Prim.Native.Nat.{ℕ}
-use lib.ListN.{length}
-use Rattle.sets.specs.Members.{words_of, set_of, empty}
-use Rattle.sets.specs.declared.fixed_bit_set.FixedBitSet.{FixedBitSet}
-use Rattle.sets.proofs.OutcomeLaws.{given_no, given_yes}
-use Rattle.two_sets.specs.Combined.{combined}
-use Rattle.two_sets.proofs.MemberJoins.{Joinable, joinable, joined-write}
-use Rattle.two_sets.proofs.SetJoins.{joined_into}
+use Prim.Native.Nat.{ℕ, ◌≤◌}
 use native.Mathlib.Omega.{arith}
+use lib.ListN.{length}
+use Rattle.sets.specs.Members.{words_of}
+use Rattle.sets.specs.declared.fixed_bit_set.FixedBitSet.{FixedBitSet}
+use Rattle.sets.proofs.OutcomeLaws.{given_yes}
+use Rattle.sets.proofs.QuestionLaws.{valid, room, room_only}
+use Rattle.sets.proofs.RefusalLaws.{edit_refused}
+use Rattle.two_sets.specs.Combined.{combined}
+use Rattle.two_sets.proofs.MemberJoins.{joined-both}
+use Rattle.two_sets.proofs.SetJoins.{joined_into}
 use Rattle.two_sets.proofs.third_buffer.join_third.Goals as goal
-use Rattle.two_sets.proofs.third_buffer.join_third.Goals.{Else-number-ne0}
 
--- no question says no
-known : (c : Else-number-ne0)
-    → let a = c.args in
-    Joinable a.a a.words.now a.b a.other.now a.length (length a.out.now)
-known c = joinable _ _ _ _ _ _ c.requires c.ask_join-number.ensures c.if-number-ne0.false
-
-pub returns-then-number-ne0 : goal.returns-then-number-ne0
-returns-then-number-ne0 c =
-    rw c.new.ensures
-    (given_no (λ m. record { number = m; set = set_of (empty 0); words = c.args.out.now }) _
-    c.ask_join-number.ensures c.if-number-ne0.true)
+pub returns-in_err-check_new : goal.returns-in_err-check_new
+returns-in_err-check_new c =
+    let a = c.args in
+    let v = valid _ _ a.one.sound.asked in
+    let w = valid _ _ a.two.sound.asked in
+    edit_refused _ _ _ _ _ c.from_residual.ensures.1 (c.in_err-check_new.ensures ∙ room_only _ _ (omega (arith, v.small, w.small, c.requires)))
 
 pub join_in_place-requires : goal.join_in_place-requires
 unfolding words_of
 join_in_place-requires c =
-    let k = known (goal.at.join_in_place-requires c).Else-number-ne0 in
+    let a = c.args in
     let fits = c.requires in
     let total = c.blocks_of-total.ensures in
-    let blocks = c.blocks_of.ensures in
-    let copied = c.lesser-copied.ensures in
-    let others = c.blocks_of-2.ensures in
-    (omega arith, omega arith, omega (arith, k.enough), omega (arith, k.two.enough))
+    let copied = c.min-copied.ensures in
+    let one = a.one.sound.own in
+    let two = a.two.sound.own in
+    (omega arith, omega arith, omega (arith, (room _ _ (sym c.in_ok-check_new.ensures)).enough))
 
 pub returns : goal.returns
 unfolding combined
 returns c =
     let a = c.args in
-    let k = known (goal.at.returns c).Else-number-ne0 in
-    given_yes _ k.passed
-    (ap₂ (λ (s : FixedBitSet) (w : List ℕ). record { number = 0; set = s; words = w }) c.new-2.ensures
+    let v = valid _ _ a.one.sound.asked in
+    let w = valid _ _ a.two.sound.asked in
+    let n : ℕ = a.bits in
+    let enough = (room _ _ (sym c.in_ok-check_new.ensures)).enough in
+    let all : length a.one.words.now ≤ length a.one.words.now = omega arith in
+    given_yes _ (c.in_ok-check_new.ensures ∙ room_only _ _ (omega (arith, v.small, w.small, c.requires)))
+    (ap₂ (λ (s : FixedBitSet) (ws : List ℕ). record { number = 0; set = s; words = ws }) c.new.ensures
     (c.join_in_place.ensures
-    ∙ rw (c.copy_blocks.ensures, c.lesser-copied.ensures, c.blocks_of.ensures, c.blocks_of-total.ensures, c.blocks_of-2.ensures)
-    (joined_into a.operation (words_of a.a.length) (words_of a.b.length) (words_of a.length) a.words.now a.other.now a.out.now k.enough k.one.enough
-    ∙ joined-write a.operation k.one k.two a.length a.out.now k.enough)))
+    ∙ rw (c.copy_blocks.ensures, c.min-copied.ensures, c.blocks_of-total.ensures)
+    (joined_into a.operation (length a.one.words.now) (length a.two.words.now) (words_of n) a.one.words.now a.two.words.now a.out.now enough all
+    ∙ joined-both a.operation a.one a.two n a.out.now enough)))
