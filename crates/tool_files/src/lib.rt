@@ -10,8 +10,8 @@ mod reads;
 mod reports;
 mod streams;
 
-pub use messages::{incomplete, tell, tell_error, tell_number};
+pub use messages::{Fragment, Trouble, fail, incomplete, not_listed, tell};
 pub use offset_loading::load;
 pub use pair_loading::load_pairs;
 pub use parts::part;
-pub use streams::write_whole;
+pub use streams::{Step, write_pieces, write_whole};

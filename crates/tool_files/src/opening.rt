@@ -1,5 +1,5 @@
-use crate::messages::{tell, tell_error};
-use check::same;
+use crate::messages::Fragment::{Name, Reason, Text};
+use crate::messages::{Trouble, fail};
 use std::io::{Input, Read, Write};
 use std::rt::Files;
 use std::{fs, io, str};
@@ -20,29 +20,26 @@ impl<I: Read, F: Read> Read for Source<I, F> {
     }
 }
 
-// A file that is open, none where it cannot be opened: it was said why. `-` is the standard input.
+// A file that is open; `-` is the standard input.
 pub(crate) fn open_file<R: Files + Input, E: Write>(
     rt: &R,
     name: &[u8],
     err: &mut E,
-) -> Option<Source<R::Reader, R::File>> {
-    if same(name, b"-") {
-        return Some(Source::Input(rt.reader()));
+) -> Result<Source<R::Reader, R::File>, Trouble> {
+    if name == b"-".as_slice() {
+        return Ok(Source::Input(rt.reader()));
     }
     let Ok(path) = str::from_utf8(name) else {
-        let _told = tell(
+        return Err(fail(
             err,
-            b"ERROR: ",
-            name,
-            b" cannot be opened: the name is no UTF-8",
-        );
-        return None;
+            &[Name(name), Text(b" cannot be opened: the name is no UTF-8")],
+        ));
     };
     match fs::open(rt, path) {
-        Ok(file) => Some(Source::File(file)),
-        Err(error) => {
-            let _told = tell_error(err, b"ERROR: ", name, b" cannot be opened: ", &error);
-            None
-        }
+        Ok(file) => Ok(Source::File(file)),
+        Err(error) => Err(fail(
+            err,
+            &[Name(name), Text(b" cannot be opened: "), Reason(&error)],
+        )),
     }
 }

@@ -1,70 +1,56 @@
-ghost use Rattle.std.specs.Prelude.{◌+◌, ◌<◌};
+ghost use Rattle.std.specs.Prelude.{◌<◌, IfOk, IfSome};
 ghost use Rattle.io.specs.Counts.{IsPrefixLen};
 
 use std::io;
 use std::io::{ErrorKind, Read};
 
-// What a read gave: how many bytes came, and the error where it failed.
+// Why a file was not read to its end.
 #[derive(Clone, Copy)]
-pub(crate) struct Got {
-    pub count: usize,
-    pub error: Option<io::Error>,
+pub(crate) enum Unread {
+    TooLong,
+    Failed(io::Error),
 }
 
-pub(crate) fn read_some<F: Read>(file: &mut F, buffer: &mut [u8]) -> Got
-    ensures { IsPrefixLen result.count buffer.new }
-{
-    match file.read(buffer) {
-        Ok(count) => Got { count, error: None },
-        Err(error) => Got {
-            count: 0,
-            error: Some(error),
-        },
-    }
-}
-
-// The reads of a file: how many bytes may still come, 0 once the reads are over, and how many signals; then whether the file ended, and if not the error, none at the limit.
+// The reads of a file that are still to come: they give fewer than `left` bytes, and up to `signals` of them are broken off by a signal and made again.
 #[derive(Clone, Copy)]
 pub(crate) struct Reads {
     pub left: usize,
-    pub signals: usize,
-    pub ended: bool,
-    pub error: Option<io::Error>,
+    signals: usize,
 }
 
-// The limit is 16 MiB: a proved loop has to end, and nothing says that a file does.
-pub(crate) fn first_read() -> Reads {
-    Reads {
-        left: 16777217,
-        signals: 1000,
-        ended: false,
-        error: None,
-    }
-}
-
-// After a read: bytes or signals are fewer, or the reads are over.
-pub(crate) fn after_read(reads: Reads, got: Got) -> Reads
-    ensures { 0 < reads.left → result.left + result.signals < reads.left + reads.signals }
-{
-    let mut next = reads;
-    if let Some(error) = got.error {
-        if reads.signals == 0 || error.kind() != ErrorKind::Interrupted {
-            next.left = 0;
-            next.error = got.error;
-            return next;
+impl Reads {
+    // The limit is 16 MiB: a proved loop has to end, and nothing says that a file does.
+    pub(crate) fn new() -> Reads {
+        Reads {
+            left: 16777217,
+            signals: 1000,
         }
-        next.signals -= 1;
-        return next;
     }
-    if got.count == 0 {
-        next.left = 0;
-        next.ended = true;
-        return next;
+
+    // How many bytes came; none at the end of the file.
+    pub(crate) fn read<F: Read>(
+        &mut self,
+        file: &mut F,
+        buffer: &mut [u8],
+    ) -> Result<Option<usize>, Unread>
+        ensures bytes { IfOk result (λ read. IfSome read (λ count. IsPrefixLen count buffer.new)) }
+        ensures fewer { IfOk result (λ read. IfSome read (λ _. self.new.left < self.old.left)) }
+    {
+        'again: loop {
+            match file.read(buffer) {
+                Ok(0) => return Ok(None),
+                Ok(count) if count < self.left => {
+                    self.left -= count;
+                    return Ok(Some(count));
+                }
+                Ok(_) => return Err(Unread::TooLong),
+                Err(error) => {
+                    if self.signals == 0 || error.kind() != ErrorKind::Interrupted {
+                        return Err(Unread::Failed(error));
+                    }
+                    self.signals -= 1;
+                }
+            }
+        }
     }
-    if reads.left <= got.count {
-        next.left = 0;
-        return next;
-    }
-    next.left -= got.count;
-    next
 }

@@ -1,35 +1,48 @@
-use crate::messages::{tell, tell_error, tell_number};
+use crate::messages::Fragment::{Name, Number, Reason, Text};
+use crate::messages::{Trouble, fail};
 use crate::parts::part;
-use crate::streams::write_whole;
-use std::io;
+use crate::reads::Unread;
 use std::io::Write;
 
-// Why a file was not read to its end: the error, none at the limit.
-pub(crate) fn tell_unread<E: Write>(name: &[u8], err: &mut E, error: &Option<io::Error>) {
-    match error {
-        Some(error) => {
-            let _told = tell_error(err, b"ERROR: ", name, b" cannot be read: ", error);
-        }
-        None => {
-            let _told = tell(err, b"ERROR: ", name, b": it has more than 16777216 bytes");
-        }
+// Why a file was not read to its end.
+pub(crate) fn tell_unread<E: Write>(name: &[u8], err: &mut E, unread: Unread) -> Trouble {
+    match unread {
+        Unread::TooLong => fail(
+            err,
+            &[Name(name), Text(b": it has more than 16777216 bytes")],
+        ),
+        Unread::Failed(error) => fail(
+            err,
+            &[Name(name), Text(b" cannot be read: "), Reason(&error)],
+        ),
     }
 }
 
-// Writes the report, the first `end` bytes of its buffer. False where it has no room for all, or where it could not be written.
-pub(crate) fn tell_report<E: Write>(name: &[u8], err: &mut E, report: &[u8], end: usize) -> bool {
+// Writes the report, the first `end` bytes of its buffer, which has room for all where that is not its length.
+pub(crate) fn tell_report<E: Write>(
+    name: &[u8],
+    err: &mut E,
+    report: &[u8],
+    end: usize,
+) -> Result<(), Trouble> {
     if end == report.len() {
-        let _told = tell(err, b"ERROR: ", name, b": too much is to be said of it");
-        return false;
+        return Err(fail(err, &[Name(name), Text(b": too much is to be said of it")]));
     }
-    write_whole(err, part(report, 0, end)).is_ok()
+    err.write_all(part(report, 0, end)).map_err(|_| Trouble)
 }
 
-// Of which bad lines the report has nothing. False where a line is bad.
-pub(crate) fn tell_bads<E: Write>(name: &[u8], err: &mut E, bads: usize) -> bool {
+// Of which bad lines the report has nothing. Trouble where a line is bad.
+pub(crate) fn tell_bads<E: Write>(name: &[u8], err: &mut E, bads: usize) -> Result<(), Trouble> {
     if bads > 20 {
-        let more = (bads - 20) as u64;
-        let _told = tell_number(err, b"ERROR: ", name, more, b" more lines are bad");
+        return Err(fail(
+            err,
+            &[
+                Name(name),
+                Text(b": "),
+                Number((bads - 20) as u64),
+                Text(b" more lines are bad"),
+            ],
+        ));
     }
-    bads == 0
+    if bads == 0 { Ok(()) } else { Err(Trouble) }
 }
