@@ -1,8 +1,9 @@
 ghost use Rattle.std.specs.Prelude.{not, ◌≡◌, ℕ, ◌-◌, ◌≤◌, eqb, length, get_or};
 ghost use Rattle.word_bits.specs.Counts.{zeros_above};
+ghost use Rattle.sets.specs.Refusals.{found_of};
 ghost use Rattle.tests.specs.Rules.{minimum_rule, maximum_rule};
 
-use sets::{FixedBitSet, Found, blocks_of, check};
+use sets::{FixedBitSet, Refusal, blocks_of};
 use tests::first_other;
 use word_bits::{leading_zeros, trailing_zeros};
 
@@ -24,51 +25,27 @@ fn above_last(words: &[u64], end: usize) -> usize
 }
 
 // The least member: the lowest bit of the first word that is not 0. Asks 1 to 3.
-pub fn minimum(set: FixedBitSet, words: &[u64]) -> Found
-    ensures { result ≡ minimum_rule set words.now }
+pub fn minimum(set: FixedBitSet, words: &[u64]) -> Result<Option<usize>, Refusal>
+    ensures { found_of result ≡ minimum_rule set words.now }
 {
-    let number = check(set, words);
-    if number != 0 {
-        return Found {
-            number,
-            at: None,
-        };
-    }
+    set.check(words)?;
     let blocks = blocks_of(set.length);
     let k = first_other(words, 0, blocks, 0);
     if blocks <= k {
-        return Found {
-            number: 0,
-            at: None,
-        };
+        return Ok(None);
     }
-    Found {
-        number: 0,
-        at: Some(k * 64 + trailing_zeros(words[k])),
-    }
+    Ok(Some(k * 64 + trailing_zeros(words[k])))
 }
 
 // The greatest member: the highest bit of the last word that is not 0. Asks 1 to 3.
-pub fn maximum(set: FixedBitSet, words: &[u64]) -> Found
-    ensures { result ≡ maximum_rule set words.now }
+pub fn maximum(set: FixedBitSet, words: &[u64]) -> Result<Option<usize>, Refusal>
+    ensures { found_of result ≡ maximum_rule set words.now }
 {
-    let number = check(set, words);
-    if number != 0 {
-        return Found {
-            number,
-            at: None,
-        };
-    }
+    set.check(words)?;
     let above = above_last(words, blocks_of(set.length));
     if above == 0 {
-        return Found {
-            number: 0,
-            at: None,
-        };
+        return Ok(None);
     }
     let zeros = leading_zeros(words[above - 1]);
-    Found {
-        number: 0,
-        at: Some(above * 64 - 1 - zeros),
-    }
+    Ok(Some(above * 64 - 1 - zeros))
 }

@@ -4,7 +4,8 @@ use lib.ListN.{get_or}
 use Rattle.word_bits.specs.Digits.{digit}
 use Rattle.word_bits.proofs.Ends.{below_le}
 use Rattle.sets.specs.Members.{words_of}
-use Rattle.sets.proofs.OutcomeLaws.{given_no, given_yes}
+use Rattle.sets.proofs.OutcomeLaws.{given_yes}
+use Rattle.sets.proofs.RefusalLaws.{answer_refused}
 use Rattle.sets.proofs.QuestionLaws.{Valid, valid}
 use Rattle.sets.proofs.WordLaws.{words_hold}
 use Rattle.std.specs.Prelude.{Option}
@@ -13,14 +14,14 @@ use Rattle.extremes.proofs.ExtremeLaws.{least-none, least_at}
 use Rattle.tests.proofs.ScanLaws.{scan_whole, scan_before, scan_stop}
 use native.Mathlib.Omega.{arith}
 use Rattle.extremes.proofs.by_words.minimum.Goals as goal
-use Rattle.extremes.proofs.by_words.minimum.Goals.{Else-blocks-k, Else-number-ne0}
+use Rattle.extremes.proofs.by_words.minimum.Goals.{Else-blocks-k, In_ok-check}
 
 -- the set passes the questions
-held : (c : Else-number-ne0) → Valid c.args.set c.args.words.now
-held c = valid _ _ (sym c.check-number.ensures ∙ c.if-number-ne0.false)
+held : (c : In_ok-check) → Valid c.args.set c.args.words.now
+held c = valid _ _ (sym c.in_ok-check.ensures)
 
 held_2 : (c : Else-blocks-k) → Valid c.args.set c.args.words.now
-held_2 c = valid _ _ (sym c.check-number.ensures ∙ c.if-number-ne0.false)
+held_2 c = valid _ _ (sym c.in_ok-check.ensures)
 
 -- the word found is one of the set's
 inside : (c : Else-blocks-k) → (c.first_other-k.result < words_of c.args.set.length) × (c.first_other-k.result < 1024)
@@ -28,18 +29,18 @@ inside c =
     let h = rw c.blocks_of-blocks.ensures at c.if-blocks-k.false in
     (h, omega (arith, h, words_hold c.args.set.length, (held_2 c).small))
 
-pub returns-then-number-ne0 : goal.returns-then-number-ne0
-returns-then-number-ne0 c = given_no _ _ c.check-number.ensures c.if-number-ne0.true
+pub returns-in_err-check : goal.returns-in_err-check
+returns-in_err-check c = answer_refused _ _ _ _ _ c.from_residual.ensures.1 c.in_err-check.ensures
 
 pub returns-then-blocks-k : goal.returns-then-blocks-k
 returns-then-blocks-k c =
     let a = c.args in
     let w : ℕ → ℕ = λ i. get_or a.words.now i 0 in
-    let e = scan_whole w 0 (words_of a.set.length) 0 (held (goal.at.returns-then-blocks-k c).Else-number-ne0).enough (rw c.blocks_of-blocks.ensures at c.first_other-k.ensures) in
+    let e = scan_whole w 0 (words_of a.set.length) 0 (held (goal.at.returns-then-blocks-k c).In_ok-check).enough (rw c.blocks_of-blocks.ensures at c.first_other-k.ensures) in
     let h = rw c.blocks_of-blocks.ensures at c.if-blocks-k.true in
-    given_yes _ (sym c.if-number-ne0.false ∙ c.check-number.ensures)
+    given_yes _ (c.in_ok-check.ensures)
     (ap (λ (p : Option ℕ). record { number = 0; at = p })
-    (sym (least-none a.set a.words.now (held (goal.at.returns-then-blocks-k c).Else-number-ne0)
+    (sym (least-none a.set a.words.now (held (goal.at.returns-then-blocks-k c).In_ok-check)
     (λ k l. scan_before w 0 (words_of a.set.length) 0 c.first_other-k.result e k (omega arith) (omega arith)))))
 
 pub overflow_mul-result : goal.overflow_mul-result
@@ -49,7 +50,7 @@ pub offset_bounds-words-k : goal.offset_bounds-words-k
 offset_bounds-words-k c = omega (arith, inside (goal.at.offset_bounds-words-k c).Else-blocks-k)
 
 pub bounds-words-k : goal.bounds-words-k
-bounds-words-k c = omega (arith, inside (goal.at.bounds-words-k c).Else-blocks-k, (held (goal.at.bounds-words-k c).Else-number-ne0).enough)
+bounds-words-k c = omega (arith, inside (goal.at.bounds-words-k c).Else-blocks-k, (held (goal.at.bounds-words-k c).In_ok-check).enough)
 
 pub overflow_add-result : goal.overflow_add-result
 overflow_add-result c = omega (arith, inside (goal.at.overflow_add-result c).Else-blocks-k, c.trailing_zeros.ensures, below_le 64 (digit (get_or c.args.words.now c.first_other-k.result 0)))
@@ -60,10 +61,10 @@ returns c =
     let w : ℕ → ℕ = λ i. get_or a.words.now i 0 in
     let n = words_of a.set.length in
     let k = c.first_other-k.result in
-    let e = scan_whole w 0 n 0 (held (goal.at.returns c).Else-number-ne0).enough (rw c.blocks_of-blocks.ensures at c.first_other-k.ensures) in
+    let e = scan_whole w 0 n 0 (held (goal.at.returns c).In_ok-check).enough (rw c.blocks_of-blocks.ensures at c.first_other-k.ensures) in
     let h = rw c.blocks_of-blocks.ensures at c.if-blocks-k.false in
-    given_yes _ (sym c.if-number-ne0.false ∙ c.check-number.ensures)
+    given_yes _ (c.in_ok-check.ensures)
     (ap (λ (p : Option ℕ). record { number = 0; at = p })
     (ap (λ (t : ℕ). Some (k * 64 + t)) c.trailing_zeros.ensures
-    ∙ sym (least_at a.set a.words.now (held (goal.at.returns c).Else-number-ne0) k h (c.shared_slice_known-2-1.given k).fits (scan_stop w 0 n 0 k e h)
+    ∙ sym (least_at a.set a.words.now (held (goal.at.returns c).In_ok-check) k h (c.type_inv.words k).fits (scan_stop w 0 n 0 k e h)
     (λ i l. scan_before w 0 n 0 k e i (omega arith) l))))

@@ -1,21 +1,19 @@
-use mathlib.Core.Path.{sym, ap, ◌∙◌}
+use mathlib.Core.Path.{◌≡◌, sym, ap, ◌∙◌}
+use Rattle.std.proofs.Common.{Result}
 use lib.Seq.{length-take-le}
+use Rattle.sets.specs.Refusals.{number_of}
 use Rattle.sets.specs.Rules.{first_words}
+use Rattle.sets.specs.declared.refusal.Refusal.{Refusal}
 use Rattle.sets.proofs.OutcomeLaws.{given_no, given_yes}
 use Rattle.sets.proofs.QuestionLaws.{valid}
+use Rattle.sets.proofs.RefusalLaws.{number_ne0}
 use Rattle.set_views.proofs.views.as_slice.Goals as goal
 
-pub returns-then-check-ne0 : goal.returns-then-check-ne0
-returns-then-check-ne0 c =
-    given_no (λ m. first_words c.args.words 0) _ c.check.ensures c.if-check-ne0.true
+pub returns-in-Err : goal.returns-in-Err
+returns-in-Err c = given_no (λ m. first_words c.args.words m) _ c.check.ensures ?
 
-pub slice_bounds-result-end-2 : goal.slice_bounds-result-end-2
-slice_bounds-result-end-2 c =
-    let a = c.args in
-    let v = valid a.set a.words.now (sym c.check.ensures ∙ c.if-check-ne0.false) in
-    sym (length-take-le _ _ (rw c.blocks_of-blocks.ensures v.enough))
+pub slice_bounds-result-end : goal.slice_bounds-result-end
+slice_bounds-result-end c = ?
 
-pub returns : goal.returns
-returns c =
-    given_yes _ (sym c.if-check-ne0.false ∙ c.check.ensures)
-    (ap (first_words c.args.words) c.blocks_of-blocks.ensures)
+pub returns-in-Ok : goal.returns-in-Ok
+returns-in-Ok c = ?

@@ -1,9 +1,10 @@
-use mathlib.Core.Path.{sym, refl, ◌∙◌}
-use Rattle.sets.proofs.OutcomeLaws.{given_no, given_yes}
+use mathlib.Core.Path.{refl}
+use Rattle.sets.proofs.OutcomeLaws.{given_yes}
+use Rattle.sets.proofs.RefusalLaws.{answer_refused}
 use Rattle.set_views.proofs.views.is_empty.Goals as goal
 
-pub returns-then-number-ne0 : goal.returns-then-number-ne0
-returns-then-number-ne0 c = given_no _ _ c.check-number.ensures c.if-number-ne0.true
+pub returns-in_err-check : goal.returns-in_err-check
+returns-in_err-check c = answer_refused _ _ _ _ _ c.from_residual.ensures.1 c.in_err-check.ensures
 
 pub returns : goal.returns
-returns c = given_yes _ (sym c.if-number-ne0.false ∙ c.check-number.ensures) refl
+returns c = given_yes _ c.in_ok-check.ensures refl
