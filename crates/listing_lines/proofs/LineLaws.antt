@@ -2,15 +2,18 @@
 use mathlib.Core.Path.{◌≡◌, refl, sym, ap, ap₂, ◌∙◌}
 use mathlib.Core.Bool.{Bool, false}
 use mathlib.Core.List.{List, [], ◌∷◌, ◌++◌, append_assoc, append-nil}
-use Prim.Native.Nat.{ℕ, suc, ◌+◌, ◌≤◌, ◌<◌}
+use Prim.Native.Nat.{ℕ, suc, ◌+◌, ◌<◌}
 use native.Mathlib.Nat.{add-zero}
 use native.Mathlib.Numerals.{add-one}
 use native.Mathlib.Omega.{arith}
 use lib.ListN.{length, get_or, take}
-use lib.Seq.{take-suc, take_all, length-take-le}
-use Rattle.byte_texts.specs.Texts.{written}
-use Rattle.byte_texts.proofs.TextLaws.{written_none, written_then}
+use lib.Seq.{take-suc, length-take-le}
+use Rattle.byte_texts.specs.Growth.{Appended}
+use Rattle.byte_texts.specs.declared.texts.Text.{Text}
+use Rattle.byte_texts.proofs.GrowthLaws.{appended_then, appended_as}
 use Rattle.listing_lines.specs.Lines.{offset_text, line_text, lines_text}
+use Rattle.listing_lines.specs.Listings.{is_missing, has_of, lacks_of, line_of, listed}
+use Rattle.listing_lines.specs.declared.lines.Listing.{Listing}
 
 module _ (sheet missing : Bool) (has lacks : List ℕ) (total : ℕ) where
   -- the lines of two lists, the second from the place behind the first
@@ -25,7 +28,7 @@ module _ (sheet missing : Bool) (has lacks : List ℕ) (total : ℕ) where
       ∙ sym (append_assoc (line_text sheet missing has lacks total place x) (lines_text sheet missing has lacks total (place + 1) xs) (lines_text sheet missing has lacks total (place + suc (length xs)) ys))
 
   module _ (offsets : List ℕ) (place : ℕ) where
-    lines_more : (k : ℕ) → k < length offsets → lines_text sheet missing has lacks total place (take k offsets) ++ line_text sheet missing has lacks total (place + k) (get_or offsets k 0)
+    pub lines_more : (k : ℕ) → k < length offsets → lines_text sheet missing has lacks total place (take k offsets) ++ line_text sheet missing has lacks total (place + k) (get_or offsets k 0)
         ≡ lines_text sheet missing has lacks total place (take (k + 1) offsets)
     unfolding lines_text
     lines_more k l =
@@ -36,31 +39,16 @@ module _ (sheet missing : Bool) (has lacks : List ℕ) (total : ℕ) where
         ∙ sym (lines-append (take k offsets) (get_or offsets k 0 ∷ []) place)
         ∙ ap (lines_text sheet missing has lacks total place) (sym (take-suc offsets k 0 l) ∙ ap (λ (i : ℕ). take i offsets) (sym (add-one k)))
 
-    -- ---- the loop that writes them: so many are written
-
-    module _ (out : List ℕ) (at : ℕ) where
-      pub record Lining (now : List ℕ) (end k : ℕ) : Type 0 where
-        pub inside : k ≤ length offsets
-        pub done : record { end = end; out = now } ≡ written out at (lines_text sheet missing has lacks total place (take k offsets))
-
-      pub lining_start : at ≤ length out → Lining out at 0
-      unfolding lines_text
-      lining_start h = record { inside = omega arith; done = sym (written_none out at h) }
-
-      pub lining_more : {now next : List ℕ} {end stop k : ℕ} → Lining now end k → k < length offsets
-          → record { end = stop; out = next } ≡ written now end (line_text sheet missing has lacks total (place + k) (get_or offsets k 0)) → Lining next stop (k + 1)
-      lining_more {now} {next} {end} {stop} {k} h l e = record {
-        inside = omega arith;
-        done = written_then out at _ _ h.done e ∙ ap (written out at) (lines_more k l);
-      }
-
-      pub lining_end : {now : List ℕ} {end k : ℕ} → Lining now end k → length offsets ≤ k
-          → record { end = end; out = now } ≡ written out at (lines_text sheet missing has lacks total place offsets)
-      lining_end {k = k} h l = h.done ∙ ap (λ (ps : List ℕ). written out at (lines_text sheet missing has lacks total place ps)) (take_all k offsets l)
-
 -- a line of a list has no names
 pub lines_plain : (sheet : Bool) (has lacks : List ℕ) (total : ℕ) (ps : List ℕ) (place : ℕ)
     → lines_text sheet false has lacks total place ps ≡ lines_text sheet false [] [] total place ps
 unfolding lines_text line_text offset_text
 lines_plain sheet has lacks total [] place = refl
 lines_plain sheet has lacks total (p ∷ ps) place = ap (λ (t : List ℕ). line_text sheet false [] [] total place p ++ t) (lines_plain sheet has lacks total ps (place + 1))
+
+-- ---- the loop that writes them: k of them are written
+
+pub listed_more : (l : Listing) (offsets : List ℕ) (place : ℕ) {start now next : Text} {k : ℕ} → Appended start now (listed l place (take k offsets)) → k < length offsets
+    → Appended now next (line_of l (place + k) (get_or offsets k 0)) → Appended start next (listed l place (take (k + 1) offsets))
+listed_more l offsets place {k = k} h i e =
+    appended_as (appended_then h e) (lines_more l.places.sheet (is_missing l.missing) (has_of l.missing) (lacks_of l.missing) l.places.total offsets place k i)

@@ -3,4 +3,4 @@
 
 mod lines;
 
-pub use lines::{Listing, append_lines, append_place};
+pub use lines::{Listing, Missing, Places};

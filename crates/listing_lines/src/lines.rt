@@ -1,89 +1,84 @@
-ghost use Rattle.std.specs.Prelude.{◌≡◌, ◌+◌, ◌^◌, ◌<◌, length};
-ghost use Rattle.byte_texts.specs.Texts.{written};
-ghost use Rattle.listing_lines.specs.Lines.{place_text, offset_text, line_text, lines_text};
+#![tactic(auto, using(byte_texts::proofs::TextLaws::written_more), unfolding(byte_texts::specs::Ascii::ascii, crate::specs::Lines::place_text, crate::specs::Lines::offset_text, crate::specs::Lines::line_text))]
 
-use byte_texts::{append, append_decimal};
-use whole_walks::Walk;
+ghost use Rattle.std.specs.Prelude.{◌+◌, ◌^◌, ◌<◌, length};
+ghost use Rattle.byte_texts.specs.Growth.{Appended};
+ghost use Rattle.listing_lines.specs.Lines.{place_text};
+ghost use Rattle.listing_lines.specs.Listings.{offset_of, line_of, listed};
 
-// Which lines are written: those of a walk, on a sheet or not, of missing offsets or not; and how many there are in all.
+use byte_texts::Text;
+
+// On a sheet each line starts with its place and how many lines there are.
 #[derive(Clone, Copy)]
-pub struct Listing {
-    pub walk: Walk,
+pub struct Places {
     pub sheet: bool,
-    pub missing: bool,
     pub total: usize,
 }
 
-// On a sheet, the place of a line and how many lines there are.
-pub fn append_place(out: &mut [u8], at: usize, sheet: bool, total: usize, place: usize) -> usize
-    ensures { record { end = result; out = out.new } ≡ written out.old at (place_text sheet total place) }
-{
-    if sheet {
-        let end = append_decimal(out, at, place as u64);
-        let end = append(out, end, b"/");
-        let end = append_decimal(out, end, total as u64);
-        return append(out, end, b" ");
-    }
-    append(out, at, b"")
+// The names of two files: the one has the offsets of the lines, the other lacks them.
+#[derive(Clone, Copy)]
+pub struct Missing<'a> {
+    pub has: &'a [u8],
+    pub lacks: &'a [u8],
 }
 
-fn append_offset(
-    out: &mut [u8],
-    at: usize,
-    missing: bool,
-    has: &[u8],
-    lacks: &[u8],
-    offset: u64,
-) -> usize
-    ensures { record { end = result; out = out.new } ≡ written out.old at (offset_text missing has.now lacks.now offset) }
-{
-    if missing {
-        let end = append(out, at, b"offset ");
-        let end = append_decimal(out, end, offset);
-        let end = append(out, end, b": in ");
-        let end = append(out, end, has);
-        let end = append(out, end, b", not in ");
-        return append(out, end, lacks);
-    }
-    append_decimal(out, at, offset)
+// Which lines are written: of offsets that only one of two files has, or of a list.
+#[derive(Clone, Copy)]
+pub struct Listing<'a> {
+    pub places: Places,
+    pub missing: Option<Missing<'a>>,
 }
 
-fn append_line(
-    out: &mut [u8],
-    at: usize,
-    listing: Listing,
-    has: &[u8],
-    lacks: &[u8],
-    place: usize,
-    offset: u64,
-) -> usize
-    ensures { record { end = result; out = out.new } ≡ written out.old at (line_text listing.sheet listing.missing has.now lacks.now listing.total place offset) }
-{
-    let end = append_place(out, at, listing.sheet, listing.total, place);
-    let end = append_offset(out, end, listing.missing, has, lacks, offset);
-    append(out, end, b"\n")
+impl Places {
+    // What a line starts with.
+    pub fn append_place(self, out: &mut Text, place: usize)
+        ensures { Appended out.old out.new (place_text self.sheet self.total place) }
+    {
+        if self.sheet {
+            out.append_decimal(place as u64);
+            out.append(b"/");
+            out.append_decimal(self.total as u64);
+            out.append(b" ");
+        } else {
+            out.append(b"");
+        }
+    }
 }
 
-// The offsets one a line, from a place on. Nothing is written where a place would be 2 ^ 64.
-pub fn append_lines(
-    out: &mut [u8],
-    at: usize,
-    offsets: &[u64],
-    listing: Listing,
-    has: &[u8],
-    lacks: &[u8],
-    place: usize,
-) -> usize
-    ensures { place + length offsets.now < 2 ^ 64 → record { end = result; out = out.new } ≡ written out.old at (lines_text listing.sheet listing.missing has.now lacks.now listing.total place offsets.now) }
-{
-    if usize::MAX - place < offsets.len() {
-        return at;
+impl<'a> Listing<'a> {
+    fn append_offset(self, out: &mut Text, offset: u64)
+        ensures { Appended out.old out.new (offset_of self.entry offset) }
+    {
+        match self.missing {
+            Some(files) => {
+                out.append(b"offset ");
+                out.append_decimal(offset);
+                out.append(b": in ");
+                out.append(files.has);
+                out.append(b", not in ");
+                out.append(files.lacks);
+            }
+            None => out.append_decimal(offset),
+        }
     }
-    let mut end = append(out, at, b"");
-    let mut k = 0;
-    while k < offsets.len() {
-        end = append_line(out, end, listing, has, lacks, place + k, offsets[k]);
-        k += 1;
+
+    fn append_line(self, out: &mut Text, place: usize, offset: u64)
+        ensures { Appended out.old out.new (line_of self.entry place offset) }
+    {
+        self.places.append_place(out, place);
+        self.append_offset(out, offset);
+        out.append(b"\n");
     }
-    end
+
+    // The offsets one a line, from a place on. Nothing is written where a place would be 2 ^ 64.
+    pub fn append_lines(self, out: &mut Text, offsets: &[u64], place: usize)
+        ensures { place + length offsets.now < 2 ^ 64 → Appended out.old out.new (listed self.entry place offsets.now) }
+    {
+        if usize::MAX - place < offsets.len() {
+            return;
+        }
+        out.append(b"");
+        for k in 0..offsets.len() {
+            self.append_line(out, place + k, offsets[k]);
+        }
+    }
 }

@@ -1,43 +1,68 @@
-ghost use Rattle.std.specs.Prelude.{◌≡◌, ◌+◌, ◌^◌, ◌<◌};
-ghost use Rattle.byte_texts.specs.Texts.{written};
-ghost use Rattle.listing_lines.specs.Lines.{offsets_text, complete_text, count_text, same_text, in_text, different_text, table_text, result_text, verdict_text, trouble_text, tables_text};
+#![tactic(auto, using(byte_texts::proofs::TextLaws::written_more), unfolding(byte_texts::specs::Ascii::ascii, listing_lines::specs::Lines::offsets_text, listing_lines::specs::Lines::complete_text, listing_lines::specs::Lines::count_text, listing_lines::specs::Lines::same_text, listing_lines::specs::Lines::in_text, listing_lines::specs::Lines::table_text, listing_lines::specs::Lines::trouble_text))]
 
-use byte_texts::{append, append_decimal};
+ghost use Rattle.std.specs.Prelude.{◌+◌, ◌^◌, ◌<◌};
+ghost use Rattle.byte_texts.specs.Growth.{Appended};
+ghost use Rattle.listing_lines.specs.Lines.{offsets_text, complete_text, count_text, same_text, in_text, table_text, trouble_text, tables_text};
+ghost use Rattle.verdict_lines.specs.Verdicts.{different_of, result_of, verdict_of};
+
+use byte_texts::Text;
 
 // A number of offsets.
-fn append_offsets(out: &mut [u8], at: usize, n: u64) -> usize
-    ensures { record { end = result; out = out.new } ≡ written out.old at (offsets_text n) }
+fn append_offsets(out: &mut Text, n: u64)
+    ensures { Appended out.old out.new (offsets_text n) }
 {
-    let end = append_decimal(out, at, n);
+    out.append_decimal(n);
     if n == 1 {
-        return append(out, end, b" offset");
+        out.append(b" offset");
+    } else {
+        out.append(b" offsets");
     }
-    append(out, end, b" offsets")
 }
 
 // The last line of a list.
-pub fn append_complete(out: &mut [u8], at: usize, n: u64) -> usize
-    ensures { record { end = result; out = out.new } ≡ written out.old at (complete_text n) }
+pub fn append_complete(out: &mut Text, n: u64)
+    ensures { Appended out.old out.new (complete_text n) }
 {
-    let end = append(out, at, b"# complete: ");
-    let end = append_offsets(out, end, n);
-    append(out, end, b"\n")
+    out.append(b"# complete: ");
+    append_offsets(out, n);
+    out.append(b"\n");
 }
 
 // The count alone.
-pub fn append_count(out: &mut [u8], at: usize, n: u64) -> usize
-    ensures { record { end = result; out = out.new } ≡ written out.old at (count_text n) }
+pub fn append_count(out: &mut Text, n: u64)
+    ensures { Appended out.old out.new (count_text n) }
 {
-    let end = append_decimal(out, at, n);
-    append(out, end, b"\n")
+    out.append_decimal(n);
+    out.append(b"\n");
 }
 
-fn append_same(out: &mut [u8], at: usize, n: u64) -> usize
-    ensures { record { end = result; out = out.new } ≡ written out.old at (same_text n) }
+fn append_same(out: &mut Text, n: u64)
+    ensures { Appended out.old out.new (same_text n) }
 {
-    let end = append(out, at, b"same: ");
-    let end = append_offsets(out, end, n);
-    append(out, end, b" in each\n")
+    out.append(b"same: ");
+    append_offsets(out, n);
+    out.append(b" in each\n");
+}
+
+// A number of offsets, and the file that they are in.
+fn append_in(out: &mut Text, n: u64, words: &[u8], name: &[u8])
+    ensures { Appended out.old out.new (in_text n words.now name.now) }
+{
+    out.append_decimal(n);
+    out.append(words);
+    out.append(name);
+}
+
+// The table's name, where there are several.
+fn append_table(out: &mut Text, several: bool, other: &[u8])
+    ensures { Appended out.old out.new (table_text several other.now) }
+{
+    if several {
+        out.append(other);
+        out.append(b": ");
+    } else {
+        out.append(b"");
+    }
 }
 
 // How many offsets the file of the first name has, and that of the other; how many only the first has, and only the other.
@@ -49,95 +74,88 @@ pub struct Sizes {
     pub lacking: u64,
 }
 
-// A number of offsets, and the file that they are in.
-fn append_in(out: &mut [u8], at: usize, n: u64, words: &[u8], name: &[u8]) -> usize
-    ensures { record { end = result; out = out.new } ≡ written out.old at (in_text n words.now name.now) }
-{
-    let end = append_decimal(out, at, n);
-    let end = append(out, end, words);
-    append(out, end, name)
+// Two files, by their names as they are shown.
+#[derive(Clone, Copy)]
+pub struct Verdict<'a> {
+    pub name: &'a [u8],
+    pub other: &'a [u8],
+    pub sizes: Sizes,
 }
 
-fn append_different(out: &mut [u8], at: usize, name: &[u8], other: &[u8], sizes: Sizes) -> usize
-    ensures { record { end = result; out = out.new } ≡ written out.old at (different_text name.now other.now sizes.name sizes.other sizes.extra sizes.lacking) }
-{
-    let end = append(out, at, b"DIFFERENT: ");
-    let end = append_in(out, end, sizes.name, b" in ", name);
-    let end = append(out, end, b", ");
-    let end = append_in(out, end, sizes.other, b" in ", other);
-    let end = append(out, end, b"; ");
-    let end = append_in(out, end, sizes.extra, b" only in ", name);
-    let end = append(out, end, b", ");
-    let end = append_in(out, end, sizes.lacking, b" only in ", other);
-    append(out, end, b"\n")
-}
-
-// The table's name, where there are several.
-fn append_table(out: &mut [u8], at: usize, several: bool, other: &[u8]) -> usize
-    ensures { record { end = result; out = out.new } ≡ written out.old at (table_text several other.now) }
-{
-    if several {
-        let end = append(out, at, other);
-        return append(out, end, b": ");
+impl<'a> Verdict<'a> {
+    fn append_different(self, out: &mut Text)
+        ensures { Appended out.old out.new (different_of self.entry) }
+    {
+        out.append(b"DIFFERENT: ");
+        append_in(out, self.sizes.name, b" in ", self.name);
+        out.append(b", ");
+        append_in(out, self.sizes.other, b" in ", self.other);
+        out.append(b"; ");
+        append_in(out, self.sizes.extra, b" only in ", self.name);
+        out.append(b", ");
+        append_in(out, self.sizes.lacking, b" only in ", self.other);
+        out.append(b"\n");
     }
-    append(out, at, b"")
-}
 
-fn append_result(out: &mut [u8], at: usize, name: &[u8], other: &[u8], sizes: Sizes) -> usize
-    ensures { record { end = result; out = out.new } ≡ written out.old at (result_text name.now other.now sizes.name sizes.other sizes.extra sizes.lacking) }
-{
-    if sizes.extra == 0 {
-        if sizes.lacking == 0 {
-            return append_same(out, at, sizes.name);
+    #[tactic(auto, unfolding(listing_lines::specs::Lines::result_text))]
+    fn append_result(self, out: &mut Text)
+        ensures { Appended out.old out.new (result_of self.entry) }
+    {
+        if self.sizes.extra == 0 && self.sizes.lacking == 0 {
+            append_same(out, self.sizes.name);
+        } else {
+            self.append_different(out);
         }
-        return append_different(out, at, name, other, sizes);
     }
-    append_different(out, at, name, other, sizes)
+
+    // The verdict on the two files, one of several tables or not.
+    pub fn append(self, out: &mut Text, several: bool)
+        ensures { Appended out.old out.new (verdict_of several self.entry) }
+    {
+        append_table(out, several, self.other);
+        self.append_result(out);
+    }
 }
 
-// The verdict on two files.
-pub fn append_verdict(
-    out: &mut [u8],
-    at: usize,
-    several: bool,
-    name: &[u8],
-    other: &[u8],
-    sizes: Sizes,
-) -> usize
-    ensures { record { end = result; out = out.new } ≡ written out.old at (verdict_text several name.now other.now sizes.name sizes.other sizes.extra sizes.lacking) }
-{
-    let end = append_table(out, at, several, other);
-    append_result(out, end, name, other, sizes)
-}
-
-fn append_trouble(out: &mut [u8], at: usize, n: u64) -> usize
-    ensures { record { end = result; out = out.new } ≡ written out.old at (trouble_text n) }
+fn append_trouble(out: &mut Text, n: u64)
+    ensures { Appended out.old out.new (trouble_text n) }
 {
     if n == 0 {
-        return append(out, at, b"");
+        out.append(b"");
+    } else {
+        out.append(b", ");
+        out.append_decimal(n);
+        out.append(b" not compared");
     }
-    let end = append(out, at, b", ");
-    let end = append_decimal(out, end, n);
-    append(out, end, b" not compared")
 }
 
-// The verdict over several tables. Nothing is written where there are 2 ^ 64 of them.
-pub fn append_tables(out: &mut [u8], at: usize, same: u64, different: u64, trouble: u64) -> usize
-    ensures { same + different + trouble < 2 ^ 64 → record { end = result; out = out.new } ≡ written out.old at (tables_text same different trouble) }
-{
-    if u64::MAX - same < different {
-        return at;
+// How many tables are the same, different and not compared.
+#[derive(Clone, Copy)]
+pub struct Tables {
+    pub same: u64,
+    pub different: u64,
+    pub trouble: u64,
+}
+
+impl Tables {
+    // The verdict over several tables. Nothing is written where there are 2 ^ 64 of them.
+    pub fn append(self, out: &mut Text)
+        ensures { self.same + self.different + self.trouble < 2 ^ 64 → Appended out.old out.new (tables_text self.same self.different self.trouble) }
+    {
+        if u64::MAX - self.same < self.different {
+            return;
+        }
+        let compared = self.same + self.different;
+        if u64::MAX - compared < self.trouble {
+            return;
+        }
+        out.append_decimal(compared + self.trouble);
+        out.append(b" tables: ");
+        out.append_decimal(self.same);
+        out.append(b" same, ");
+        out.append_decimal(self.different);
+        out.append(b" DIFFERENT");
+        append_trouble(out, self.trouble);
+        out.append(b"\n");
     }
-    let compared = same + different;
-    if u64::MAX - compared < trouble {
-        return at;
-    }
-    let end = append_decimal(out, at, compared + trouble);
-    let end = append(out, end, b" tables: ");
-    let end = append_decimal(out, end, same);
-    let end = append(out, end, b" same, ");
-    let end = append_decimal(out, end, different);
-    let end = append(out, end, b" DIFFERENT");
-    let end = append_trouble(out, end, trouble);
-    append(out, end, b"\n")
 }

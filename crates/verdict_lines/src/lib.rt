@@ -3,4 +3,4 @@
 
 mod last_lines;
 
-pub use last_lines::{Sizes, append_complete, append_count, append_tables, append_verdict};
+pub use last_lines::{Sizes, Tables, Verdict, append_complete, append_count};
