@@ -16,7 +16,7 @@ pub extern "C" fn fbs_ones_next_many(
 ) -> NextMany
     ensures { many_outcome result out.new ≡ ones_next_many_rule set words.now part out.old }
 {
-    ones_next_many(set, words, part, out)
+    NextMany::new(part, ones_next_many(set, words, part, out))
 }
 
 #[unsafe(no_mangle)]
@@ -28,7 +28,7 @@ pub extern "C" fn fbs_zeroes_next_many(
 ) -> NextMany
     ensures { many_outcome result out.new ≡ zeroes_next_many_rule set words.now part out.old }
 {
-    zeroes_next_many(set, words, part, out)
+    NextMany::new(part, zeroes_next_many(set, words, part, out))
 }
 
 #[unsafe(no_mangle)]
@@ -42,7 +42,7 @@ pub extern "C" fn fbs_intersection_next_many(
 ) -> NextMany
     ensures { many_outcome result out.new ≡ intersection_next_many_rule a words.now b other.now part out.old }
 {
-    intersection_next_many(a, words, b, other, part, out)
+    NextMany::new(part, intersection_next_many(a, words, b, other, part, out))
 }
 
 #[unsafe(no_mangle)]
@@ -56,7 +56,7 @@ pub extern "C" fn fbs_difference_next_many(
 ) -> NextMany
     ensures { many_outcome result out.new ≡ difference_next_many_rule a words.now b other.now part out.old }
 {
-    difference_next_many(a, words, b, other, part, out)
+    NextMany::new(part, difference_next_many(a, words, b, other, part, out))
 }
 
 #[unsafe(no_mangle)]
@@ -71,7 +71,8 @@ pub extern "C" fn fbs_union_next_many(
 ) -> NextManyPair
     ensures { many_pair_outcome result out.new ≡ union_next_many_rule a words.now b other.now one two out.old }
 {
-    union_next_many(a, words, b, other, one, two, out)
+    let answer = union_next_many(a, words, b, other, one, two, out);
+    NextManyPair::new(one, two, answer)
 }
 
 #[unsafe(no_mangle)]
@@ -86,5 +87,6 @@ pub extern "C" fn fbs_symmetric_difference_next_many(
 ) -> NextManyPair
     ensures { many_pair_outcome result out.new ≡ symmetric_difference_next_many_rule a words.now b other.now one two out.old }
 {
-    symmetric_difference_next_many(a, words, b, other, one, two, out)
+    let answer = symmetric_difference_next_many(a, words, b, other, one, two, out);
+    NextManyPair::new(one, two, answer)
 }

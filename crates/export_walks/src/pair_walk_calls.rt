@@ -3,7 +3,7 @@ ghost use Rattle.walks.specs.Rules.{intersection_next_rule, intersection_next_ba
 ghost use Rattle.walks.specs.Rules.{union_next_rule, union_next_back_rule, symmetric_difference_next_rule, symmetric_difference_next_back_rule};
 ghost use Rattle.export_answers.specs.Answers.{export_stepped, export_stepped_pair};
 
-use export_answers::{FbsStepped, FbsSteppedPair, stepped, stepped_pair};
+use export_answers::{FbsStepped, FbsSteppedPair};
 use sets::{FixedBitSet, Part};
 use two_part_walks::{
     symmetric_difference_next, symmetric_difference_next_back, union_next, union_next_back,
@@ -20,7 +20,7 @@ pub extern "C" fn fbs_intersection_next(
 ) -> FbsStepped
     ensures { result ≡ export_stepped (intersection_next_rule a words.now b other.now part) }
 {
-    stepped(intersection_next(a, words, b, other, part))
+    FbsStepped::new(part, intersection_next(a, words, b, other, part))
 }
 
 #[unsafe(no_mangle)]
@@ -33,7 +33,7 @@ pub extern "C" fn fbs_intersection_next_back(
 ) -> FbsStepped
     ensures { result ≡ export_stepped (intersection_next_back_rule a words.now b other.now part) }
 {
-    stepped(intersection_next_back(a, words, b, other, part))
+    FbsStepped::new(part, intersection_next_back(a, words, b, other, part))
 }
 
 #[unsafe(no_mangle)]
@@ -46,7 +46,7 @@ pub extern "C" fn fbs_difference_next(
 ) -> FbsStepped
     ensures { result ≡ export_stepped (difference_next_rule a words.now b other.now part) }
 {
-    stepped(difference_next(a, words, b, other, part))
+    FbsStepped::new(part, difference_next(a, words, b, other, part))
 }
 
 #[unsafe(no_mangle)]
@@ -59,7 +59,7 @@ pub extern "C" fn fbs_difference_next_back(
 ) -> FbsStepped
     ensures { result ≡ export_stepped (difference_next_back_rule a words.now b other.now part) }
 {
-    stepped(difference_next_back(a, words, b, other, part))
+    FbsStepped::new(part, difference_next_back(a, words, b, other, part))
 }
 
 #[unsafe(no_mangle)]
@@ -73,7 +73,7 @@ pub extern "C" fn fbs_union_next(
 ) -> FbsSteppedPair
     ensures { result ≡ export_stepped_pair (union_next_rule a words.now b other.now one two) }
 {
-    stepped_pair(union_next(a, words, b, other, one, two))
+    FbsSteppedPair::new(one, two, union_next(a, words, b, other, one, two))
 }
 
 #[unsafe(no_mangle)]
@@ -87,7 +87,7 @@ pub extern "C" fn fbs_union_next_back(
 ) -> FbsSteppedPair
     ensures { result ≡ export_stepped_pair (union_next_back_rule a words.now b other.now one two) }
 {
-    stepped_pair(union_next_back(a, words, b, other, one, two))
+    FbsSteppedPair::new(one, two, union_next_back(a, words, b, other, one, two))
 }
 
 #[unsafe(no_mangle)]
@@ -101,7 +101,7 @@ pub extern "C" fn fbs_symmetric_difference_next(
 ) -> FbsSteppedPair
     ensures { result ≡ export_stepped_pair (symmetric_difference_next_rule a words.now b other.now one two) }
 {
-    stepped_pair(symmetric_difference_next(a, words, b, other, one, two))
+    FbsSteppedPair::new(one, two, symmetric_difference_next(a, words, b, other, one, two))
 }
 
 #[unsafe(no_mangle)]
@@ -115,5 +115,5 @@ pub extern "C" fn fbs_symmetric_difference_next_back(
 ) -> FbsSteppedPair
     ensures { result ≡ export_stepped_pair (symmetric_difference_next_back_rule a words.now b other.now one two) }
 {
-    stepped_pair(symmetric_difference_next_back(a, words, b, other, one, two))
+    FbsSteppedPair::new(one, two, symmetric_difference_next_back(a, words, b, other, one, two))
 }

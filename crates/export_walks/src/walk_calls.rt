@@ -4,7 +4,7 @@ ghost use Rattle.walkers.specs.Rules.{walker_rule};
 ghost use Rattle.export_answers.specs.Answers.{export_stepped};
 ghost use Rattle.export_walks.specs.Ends.{end_at};
 
-use export_answers::{FbsStepped, stepped};
+use export_answers::FbsStepped;
 use parts::End;
 use sets::{FixedBitSet, Part};
 use walkers::walker_step;
@@ -27,21 +27,21 @@ pub extern "C" fn fbs_first_part(set: FixedBitSet) -> Part
 pub extern "C" fn fbs_ones_next(set: FixedBitSet, words: &[u64], part: Part) -> FbsStepped
     ensures { result ≡ export_stepped (ones_next_rule set words.now part) }
 {
-    stepped(ones_next(set, words, part))
+    FbsStepped::new(part, ones_next(set, words, part))
 }
 
 #[unsafe(no_mangle)]
 pub extern "C" fn fbs_ones_next_back(set: FixedBitSet, words: &[u64], part: Part) -> FbsStepped
     ensures { result ≡ export_stepped (ones_next_back_rule set words.now part) }
 {
-    stepped(ones_next_back(set, words, part))
+    FbsStepped::new(part, ones_next_back(set, words, part))
 }
 
 #[unsafe(no_mangle)]
 pub extern "C" fn fbs_zeroes_next(set: FixedBitSet, words: &[u64], part: Part) -> FbsStepped
     ensures { result ≡ export_stepped (zeroes_next_rule set words.now part) }
 {
-    stepped(zeroes_next(set, words, part))
+    FbsStepped::new(part, zeroes_next(set, words, part))
 }
 
 #[unsafe(no_mangle)]
@@ -53,5 +53,5 @@ pub extern "C" fn fbs_walker_step(
 ) -> FbsStepped
     ensures { result ≡ export_stepped (walker_rule set words.now part (end_at back)) }
 {
-    stepped(walker_step(set, words, part, end_at(back)))
+    FbsStepped::new(part, walker_step(set, words, part, end_at(back)))
 }

@@ -7,19 +7,16 @@ use native.Mathlib.Numerals.{add-one}
 use native.Mathlib.Omega.{arith}
 use lib.ListN.{length, get_or, take, drop, set, length-set, take-append-drop}
 use lib.Seq.{take-suc-set, drop-set-lt, drop-cons, drop-length, append_snoc}
-use Rattle.sets.specs.Members.{words_of, Members, read}
+use Rattle.sets.specs.Members.{Members, read}
 use Rattle.sets.specs.declared.answers.Part.{Part}
 use Rattle.std.specs.Prelude.{Option}
 use Rattle.sets.specs.declared.fixed_bit_set.FixedBitSet.{FixedBitSet}
-use Rattle.sets.proofs.QuestionLaws.{BothValid}
-use Rattle.parts.specs.Selections.{selected}
+use Rattle.parts.specs.Selections.{Difference}
 use Rattle.parts.specs.declared.records.End.{End}
-use Rattle.parts.specs.declared.records.Selection.{Selection}
-use Rattle.parts.specs.declared.records.Selection.TheVariants.{Difference}
-use Rattle.walks.specs.Helpers.{row_of, row_step}
+use Rattle.walks.specs.Helpers.{chosen, row_step}
 use Rattle.walks.proofs.PairLaws.{placed_is}
-use Rattle.walks.specs.Rules.{first_part, PairStep, pair_step, without}
-use Rattle.walks.proofs.WalkLaws.{own_row}
+use Rattle.walks.specs.Rules.{first_part, pair_step, without}
+use Rattle.walks.specs.declared.answers.PairStep.{PairStep}
 use Rattle.walks.specs.declared.rows.RowStep.{RowStep}
 use Rattle.whole_walks.specs.Walks.{first_row, second_row, answers_from, answers}
 use Rattle.whole_walks.specs.Helpers.{selection_of, nothing_left, second_part, records_after}
@@ -95,7 +92,7 @@ module _ (f g : ℕ → Bool) (steps : List ℕ) (one₀ two₀ : Part) (out₀ 
 
 -- ---- the answers of a walk, by what its steps run on
 
-module _ (a : FixedBitSet) (ws : List ℕ) (b : FixedBitSet) (vs : List ℕ) (v : BothValid a ws b vs) where
+module _ (a : FixedBitSet) (ws : List ℕ) (b : FixedBitSet) (vs : List ℕ) where
   abbrev A : Members
   A = read ws a
 
@@ -106,7 +103,7 @@ module _ (a : FixedBitSet) (ws : List ℕ) (b : FixedBitSet) (vs : List ℕ) (v 
   one_part f = ap (λ (xs : List ℕ). part_left f (first_part a) ++ xs) (nothing_left_lem (without B A) ∙ sym (left_none (λ p. false) (first_part b) (λ p l h. refl)))
 
   -- before the first step as much is left; a walk of one part has nothing in the second
-  at_first : (walk : Walk) → both_left (λ p. selected (selection_of walk) (A.has p) (B.has p)) (without B A) (first_part a) (second_part walk b)
+  at_first : (walk : Walk) → both_left (chosen (selection_of walk) A B) (without B A) (first_part a) (second_part walk b)
       ≡ both_left (first_row walk A B) (second_row walk A B) (first_part a) (first_part b)
   at_first Walk.Ones = one_part A.has
   at_first Walk.Intersection = one_part (λ p. A.has p && B.has p)
@@ -114,13 +111,9 @@ module _ (a : FixedBitSet) (ws : List ℕ) (b : FixedBitSet) (vs : List ℕ) (v 
   at_first Walk.Union = refl
   at_first Walk.SymmetricDifference = refl
 
-  pub walk_answers : (walk : Walk) (ends : List End) {m n : ℕ} {one two : Part} {s : Selection}
-      → m ≡ words_of a.length → n ≡ words_of b.length
-      → one ≡ first_part a → two ≡ second_part walk b → s ≡ selection_of walk
-      → answers_from (row_of s (take m ws) (take n vs)) (row_of Difference (take n vs) (take m ws)) ends one two ≡ answers walk A B ends
+  pub walk_answers : (walk : Walk) (ends : List End) {m n : Members} {one two : Part} → m ≡ A → n ≡ B → one ≡ first_part a → two ≡ second_part walk b
+      → answers_from (chosen (selection_of walk) m n) (chosen Difference n m) ends one two ≡ answers walk A B ends
   unfolding read
-  walk_answers walk ends {m} {n} {one} {two} e f first second q =
-      let swapped : BothValid b vs a ws = record { one = v.two; two = v.one } in
-      (λ i. answers_from (row_of (q i) (take m ws) (take n vs)) (row_of Difference (take n vs) (take m ws)) ends (first i) (second i))
-      ∙ ap₂ (λ (g h : ℕ → Bool). answers_from g h ends (first_part a) (second_part walk b)) (own_row (selection_of walk) a ws b vs v e f) (own_row Difference b vs a ws swapped f e)
+  walk_answers walk ends e f first second =
+      (λ i. answers_from (chosen (selection_of walk) (e i) (f i)) (chosen Difference (f i) (e i)) ends (first i) (second i))
       ∙ same_answers _ _ (first_row walk A B) (second_row walk A B) ends (first_part a) (second_part walk b) (first_part a) (first_part b) (at_first walk)

@@ -13,7 +13,8 @@ use Rattle.parts.specs.Steps.{front, back, step}
 use Rattle.parts.specs.declared.records.End.{End}
 use Rattle.parts.specs.declared.records.End.TheVariants.{Front, Back}
 use Rattle.parts.specs.declared.records.Step.{Step}
-use Rattle.walks.specs.Rules.{or_else, PairStep, pair_step}
+use Rattle.walks.specs.Rules.{or_else, pair_step}
+use Rattle.walks.specs.declared.answers.PairStep.{PairStep}
 use Rattle.whole_walks.specs.Walks.{answers_from}
 use Rattle.whole_walks.proofs.PartSteps.{Outcome, gives, lacks, step-outcome}
 

@@ -13,7 +13,8 @@ use Rattle.parts.specs.Steps.{front, back}
 use Rattle.parts.specs.declared.records.End.{End}
 use Rattle.parts.specs.declared.records.End.TheVariants.{Front, Back}
 use Rattle.walks.specs.Helpers.{tried, row_step, placed}
-use Rattle.walks.specs.Rules.{PairStep, pair_step}
+use Rattle.walks.specs.Rules.{pair_step}
+use Rattle.walks.specs.declared.answers.PairStep.{PairStep}
 use Rattle.walks.proofs.PairLaws.{placed_is}
 use Rattle.walks.specs.declared.rows.RowStep.{RowStep}
 use Rattle.whole_walks.specs.Helpers.{nothing_left, records_after}

@@ -1,13 +1,11 @@
 -- What the steps of a whole walk run on.
-use Rattle.std.specs.Prelude.{cond}
+use Rattle.std.specs.Prelude.{cond, ℕ, Option, Some, None}
 use Rattle.sets.specs.declared.answers.Part.{Part}
-use Rattle.std.specs.Prelude.{Option}
-use Rattle.std.specs.Prelude.{Some, None}
 use Rattle.sets.specs.declared.fixed_bit_set.FixedBitSet.{FixedBitSet}
 use Rattle.parts.specs.declared.records.End.{End}
 use Rattle.parts.specs.declared.records.End.TheVariants.{Front, Back}
-use Rattle.parts.specs.declared.records.Selection.{Selection}
-use Rattle.parts.specs.declared.records.Selection.TheVariants as Selected
+use Rattle.parts.specs.Selections.{Selection}
+use Rattle.parts.specs.Selections as Selected
 use Rattle.walks.specs.Rules.{first_part}
 use Rattle.walks.specs.declared.rows.RowStep.{RowStep}
 use Rattle.whole_walks.specs.declared.walk.Walk.{Walk}

@@ -1,9 +1,10 @@
 ghost use Rattle.std.specs.Prelude.{◌≡◌};
+ghost use Rattle.sets.specs.Refusals.{counted_of};
 ghost use Rattle.whole_walks.specs.Rules.{walk_count_rule};
 
 use crate::walk::Walk;
 use range_counts::count_ones;
-use sets::{Counted, FixedBitSet};
+use sets::{FixedBitSet, Refusal};
 use two_set_counts::{
     difference_count, intersection_count, symmetric_difference_count, union_count,
 };
@@ -15,8 +16,8 @@ pub fn walk_count(
     b: FixedBitSet,
     other: &[u64],
     walk: Walk,
-) -> Counted
-    ensures { result ≡ walk_count_rule a words.now b other.now walk }
+) -> Result<usize, Refusal>
+    ensures { counted_of result ≡ walk_count_rule a words.now b other.now walk }
 {
     match walk {
         Walk::Ones => count_ones(a, words, 0, a.length),

@@ -1,14 +1,16 @@
 ghost use Rattle.std.specs.Prelude.{◌≡◌, ◌++◌, map, ◌≤◌, length, drop};
-ghost use Rattle.parts.specs.declared.records.Selection.TheVariants.{Difference};
-ghost use Rattle.walks.specs.Helpers.{row_of};
+ghost use Rattle.sets.specs.CheckedSets.{members};
+ghost use Rattle.sets.specs.Refusals.{counted_of};
+ghost use Rattle.parts.specs.Selections as picks;
+ghost use Rattle.walks.specs.Helpers.{chosen};
 ghost use Rattle.whole_walks.specs.Walks.{answers_from};
 ghost use Rattle.whole_walks.specs.Helpers.{selection_of, second_part, left_of, records_after};
 ghost use Rattle.whole_walks.specs.Rules.{end_of, answer_word, walk_outcome, walk_rule};
 
 use crate::walk::Walk;
 use crate::walk_counts::walk_count;
-use parts::{End, Selection};
-use sets::{Counted, FixedBitSet, Part, blocks_of, check_both};
+use parts::{Difference, End, Intersection, Ones, Select};
+use sets::{Checked, FixedBitSet, Part, Refusal};
 use walks::{RowStep, first_part, step_rows};
 
 fn end_of(number: u64) -> End
@@ -20,78 +22,66 @@ fn end_of(number: u64) -> End
 fn answer_word(at: Option<usize>) -> u64
     ensures { result ≡ answer_word at }
 {
-    match at {
-        Some(p) => p as u64,
-        None => u64::MAX,
-    }
-}
-
-fn selection_of(walk: Walk) -> Selection
-    ensures { result ≡ selection_of walk }
-{
-    match walk {
-        Walk::Ones => Selection::Ones,
-        Walk::Intersection => Selection::Intersection,
-        Walk::Difference => Selection::Difference,
-        Walk::Union => Selection::Ones,
-        Walk::SymmetricDifference => Selection::Difference,
-    }
+    at.map_or(u64::MAX, |p| p as u64)
 }
 
 fn second_part(walk: Walk, b: FixedBitSet) -> Part
     ensures { result ≡ second_part walk b }
 {
-    let high = match walk {
-        Walk::Ones => 0,
-        Walk::Intersection => 0,
-        Walk::Difference => 0,
-        Walk::Union => b.length,
-        Walk::SymmetricDifference => b.length,
-    };
-    Part { low: 0, high }
+    match walk {
+        Walk::Ones | Walk::Intersection | Walk::Difference => Part { low: 0, high: 0 },
+        Walk::Union | Walk::SymmetricDifference => first_part(b),
+    }
 }
 
 fn left_of(at: Option<usize>, part: Part) -> Part
     ensures { result ≡ left_of at part }
 {
     match at {
-        Some(p) => part,
+        Some(_) => part,
         None => Part { low: 0, high: 0 },
     }
 }
 
+// The records of both parts.
 #[derive(Clone, Copy)]
 struct Records {
     one: Part,
     two: Part,
 }
 
-// A part that gave none is over for good, and is not searched again.
-fn records_after(one: Part, two: Part, end: End, step: RowStep) -> Records
-    ensures { result ≡ records_after one two end step }
-{
-    let over = Part { low: 0, high: 0 };
-    let at = step.at;
-    let part = step.part;
-    let left = left_of(at, part);
-    match end {
-        End::Front => {
-            if step.second {
-                Records {
-                    one: over,
-                    two: left,
+impl Records {
+    // A part that gave none is over for good, and is not searched again.
+    fn after(self, end: End, step: RowStep) -> Records
+        ensures { result ≡ records_after self.one self.two end step }
+    {
+        let over = Part { low: 0, high: 0 };
+        let left = left_of(step.at, step.part);
+        match end {
+            End::Front => {
+                if step.second {
+                    Records {
+                        one: over,
+                        two: left,
+                    }
+                } else {
+                    Records {
+                        one: left,
+                        two: self.two,
+                    }
                 }
-            } else {
-                Records { one: left, two }
             }
-        }
-        End::Back => {
-            if step.second {
-                Records { one, two: left }
-            } else {
-                Records {
-                    one: left,
-                    two: over,
+            End::Back => {
+                if step.second {
+                    Records {
+                        one: self.one,
+                        two: left,
+                    }
+                } else {
+                    Records {
+                        one: left,
+                        two: over,
+                    }
                 }
             }
         }
@@ -99,38 +89,43 @@ fn records_after(one: Part, two: Part, end: End, step: RowStep) -> Records
 }
 
 // The answers of the steps from the records on.
-fn take_steps(
-    words: &[u64],
-    other: &[u64],
-    one: Part,
-    two: Part,
-    selection: Selection,
+fn take_steps<S: Select>(
+    a: Checked<'_>,
+    b: Checked<'_>,
+    first: Records,
     steps: &[u64],
     out: &mut [u64],
 )
     requires { length steps.now ≤ length out.old }
-    ensures { out.new ≡ map answer_word (answers_from (row_of selection words.now other.now) (row_of Difference other.now words.now) (map end_of steps.now) one two) ++ drop (length steps.now) out.old }
+    ensures { out.new ≡ map answer_word (answers_from (chosen S.selection (members a.entry) (members b.entry)) (chosen picks.Difference (members b.entry) (members a.entry)) (map end_of steps.now) first.one first.two) ++ drop (length steps.now) out.old }
 {
-    let mut first = one;
-    let mut second = two;
-    let mut k = 0;
-    while k < steps.len() {
+    let mut records = first;
+    for k in 0..steps.len() {
         let end = end_of(steps[k]);
-        let step = step_rows(
-            words,
-            other,
-            first,
-            second,
-            selection,
-            Selection::Difference,
-            end,
-        );
-        let at = step.at;
-        let after = records_after(first, second, end, step);
-        first = after.one;
-        second = after.two;
-        out[k] = answer_word(at);
-        k = k + 1;
+        let step = step_rows::<S, Difference>(a, b, records.one, records.two, end);
+        records = records.after(end, step);
+        out[k] = answer_word(step.at);
+    }
+}
+
+// The same, with a loop of its own for each selection.
+fn walk_steps(
+    a: Checked<'_>,
+    b: Checked<'_>,
+    walk: Walk,
+    first: Records,
+    steps: &[u64],
+    out: &mut [u64],
+)
+    requires { length steps.now ≤ length out.old }
+    ensures { out.new ≡ map answer_word (answers_from (chosen (selection_of walk) (members a.entry) (members b.entry)) (chosen picks.Difference (members b.entry) (members a.entry)) (map end_of steps.now) first.one first.two) ++ drop (length steps.now) out.old }
+{
+    match walk {
+        Walk::Ones | Walk::Union => take_steps::<Ones>(a, b, first, steps, out),
+        Walk::Intersection => take_steps::<Intersection>(a, b, first, steps, out),
+        Walk::Difference | Walk::SymmetricDifference => {
+            take_steps::<Difference>(a, b, first, steps, out)
+        }
     }
 }
 
@@ -143,29 +138,17 @@ pub fn walk_whole(
     walk: Walk,
     steps: &[u64],
     out: &mut [u64],
-) -> Counted
-    ensures { walk_outcome result out.new ≡ walk_rule a words.now b other.now walk steps.now out.old }
+) -> Result<usize, Refusal>
+    ensures { walk_outcome (counted_of result) out.new ≡ walk_rule a words.now b other.now walk steps.now out.old }
 {
-    let number = check_both(a, words, b, other);
-    if number != 0 {
-        return Counted { number, count: 0 };
-    }
+    let both = Checked::both(a, words, b, other)?;
     if out.len() < steps.len() {
-        return Counted {
-            number: 7,
-            count: 0,
-        };
+        return Err(Refusal::NoRoom);
     }
-    let own = &words[..blocks_of(a.length)];
-    let others = &other[..blocks_of(b.length)];
-    take_steps(
-        own,
-        others,
-        first_part(a),
-        second_part(walk, b),
-        selection_of(walk),
-        steps,
-        out,
-    );
+    let first = Records {
+        one: first_part(a),
+        two: second_part(walk, b),
+    };
+    walk_steps(both.0, both.1, walk, first, steps, out);
     walk_count(a, words, b, other, walk)
 }

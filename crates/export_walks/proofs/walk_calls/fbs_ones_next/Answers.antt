@@ -1,6 +1,0 @@
-use mathlib.Core.Path.{ap, ◌∙◌}
-use Rattle.export_answers.specs.Answers.{export_stepped}
-use Rattle.export_walks.proofs.walk_calls.fbs_ones_next.Goals as goal
-
-pub returns : goal.returns
-returns c = c.stepped.ensures ∙ ap export_stepped c.ones_next.ensures
