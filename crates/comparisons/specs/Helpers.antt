@@ -1,11 +1,5 @@
 -- What the search over the words of two sets gives: only the helpers' contracts use it.
-use Rattle.std.specs.Prelude.{◌≡◌, ℕ, ◌≤◌, ◌<◌, min}
-use Rattle.sets.specs.Members.{words_of}
-use Rattle.sets.specs.declared.fixed_bit_set.FixedBitSet.{FixedBitSet}
-
--- how many words both sets have
-abbrev pub common : FixedBitSet → FixedBitSet → ℕ
-common a b = min (words_of a.length) (words_of b.length)
+use Rattle.std.specs.Prelude.{◌≡◌, ℕ, ◌≤◌, ◌<◌}
 
 -- r is the first place below end where g is not 0: the end where there is none
 pub record FirstAt (g : ℕ → ℕ) (end r : ℕ) : Type 0 where

@@ -1,11 +1,12 @@
-ghost use Rattle.std.specs.Prelude.{◌≡◌, ◌≤◌, length};
-ghost use Rattle.sets.specs.Members.{bit_of, read};
-ghost use Rattle.sets.specs.Questions.{questions};
-ghost use Rattle.comparisons.specs.Orders.{equal, words_order, order};
+ghost use Rattle.std.specs.Prelude.{◌≡◌};
+ghost use Rattle.sets.specs.CheckedSets.{members};
+ghost use Rattle.sets.specs.Refusals.{told_of};
+ghost use Rattle.comparisons.specs.Orders.{equal, order};
+ghost use Rattle.comparisons.specs.Compares.{order_number, compared_of};
 ghost use Rattle.comparisons.specs.Rules.{eq_rule, cmp_rule};
 
-use crate::search::first_joined;
-use sets::{FixedBitSet, Told, blocks_of, check_both};
+use sets::{Checked, FixedBitSet, Refusal};
+use std::cmp::Ordering;
 
 // The order is 0 for equal, 1 for below, 2 for above, and 0 where refused.
 #[repr(C)]
@@ -16,67 +17,61 @@ pub struct Compared {
 }
 
 // Whether the lengths are equal and no word differs.
-fn same(a: FixedBitSet, words: &[u64], b: FixedBitSet, other: &[u64]) -> bool
-    requires { (questions a words.now ≡ 0) × (questions b other.now ≡ 0) }
-    ensures { result ≡ equal (read words.now a) (read other.now b) }
+fn same(a: Checked, b: Checked) -> bool
+    ensures { result ≡ equal (members a.entry) (members b.entry) }
 {
-    if a.length != b.length {
-        return false;
-    }
-    let blocks = blocks_of(a.length);
-    blocks <= first_joined(words, other, blocks, u64::MAX, u64::MAX, 0)
+    a.length == b.length && a.words == b.words
 }
 
-// The order of the first `end` words as unsigned numbers: the first that differ decide.
-fn words_order(words: &[u64], other: &[u64], end: usize) -> u64
-    requires { (end ≤ length words.now) × (end ≤ length other.now) }
-    ensures { result ≡ words_order 0 end (bit_of words.now) (bit_of other.now) }
+// The lengths decide, then the words as unsigned numbers: the first that differ.
+fn order_of(a: Checked, b: Checked) -> Ordering
+    ensures { order_number result ≡ order (members a.entry) (members b.entry) }
 {
-    let k = first_joined(words, other, end, u64::MAX, u64::MAX, 0);
-    if end <= k {
-        return 0;
+    match a.length.cmp(&b.length) {
+        Ordering::Equal => a.words.cmp(b.words),
+        unequal => unequal,
     }
-    if words[k] < other[k] { 1 } else { 2 }
-}
-
-// 0 for equal, 1 for below, 2 for above: the lengths decide, then the words.
-fn order_of(a: FixedBitSet, words: &[u64], b: FixedBitSet, other: &[u64]) -> u64
-    requires { (questions a words.now ≡ 0) × (questions b other.now ≡ 0) }
-    ensures { result ≡ order (read words.now a) (read other.now b) }
-{
-    if a.length < b.length {
-        return 1;
-    }
-    if b.length < a.length {
-        return 2;
-    }
-    words_order(words, other, blocks_of(a.length))
 }
 
 // Whether the two sets have the same length and the same members. Asks 1 to 3 of both sets.
-pub fn eq(a: FixedBitSet, words: &[u64], b: FixedBitSet, other: &[u64]) -> Told
-    ensures { result ≡ eq_rule a words.now b other.now }
+pub fn eq(a: FixedBitSet, words: &[u64], b: FixedBitSet, other: &[u64]) -> Result<bool, Refusal>
+    ensures { told_of result ≡ eq_rule a words.now b other.now }
 {
-    let number = check_both(a, words, b, other);
-    if number != 0 {
-        return Told { number, yes: false };
-    }
-    Told {
-        number: 0,
-        yes: same(a, words, b, other),
-    }
+    let (a, b) = Checked::both(a, words, b, other)?;
+    Ok(same(a, b))
 }
 
 // The order of the two sets: length first, then words from word 0 upwards. Asks 1 to 3 of both sets.
-pub fn cmp(a: FixedBitSet, words: &[u64], b: FixedBitSet, other: &[u64]) -> Compared
-    ensures { result ≡ cmp_rule a words.now b other.now }
+pub fn cmp(
+    a: FixedBitSet,
+    words: &[u64],
+    b: FixedBitSet,
+    other: &[u64],
+) -> Result<Ordering, Refusal>
+    ensures { compared_of result ≡ cmp_rule a words.now b other.now }
 {
-    let number = check_both(a, words, b, other);
-    if number != 0 {
-        return Compared { number, order: 0 };
-    }
-    Compared {
-        number: 0,
-        order: order_of(a, words, b, other),
+    let (a, b) = Checked::both(a, words, b, other)?;
+    Ok(order_of(a, b))
+}
+
+// The answer of `cmp` as a record, with its number.
+impl From<Result<Ordering, Refusal>> for Compared {
+    ghost from_gives = { λ a r. r ≡ compared_of a };
+
+    fn from(answer: Result<Ordering, Refusal>) -> Compared {
+        match answer {
+            Ok(order) => Compared {
+                number: 0,
+                order: match order {
+                    Ordering::Less => 1,
+                    Ordering::Equal => 0,
+                    Ordering::Greater => 2,
+                },
+            },
+            Err(refusal) => Compared {
+                number: refusal.into(),
+                order: 0,
+            },
+        }
     }
 }

@@ -1,40 +1,18 @@
 ghost use Rattle.std.specs.Prelude.{◌≡◌, ℕ, min, length, get_or};
-ghost use Rattle.operations.specs.Operations.{masked_join};
-ghost use Rattle.comparisons.specs.Helpers.{common, FirstAt};
+ghost use Rattle.operations.specs.Operations.{Makes};
+ghost use Rattle.comparisons.specs.Helpers.{FirstAt};
 
-use blocks::lesser;
-use sets::{FixedBitSet, blocks_of};
-
-// How many words both sets have.
-pub(crate) fn common_blocks(a: FixedBitSet, b: FixedBitSet) -> usize
-    ensures { result ≡ common a b }
+// The first place where what `word` makes of the two words is not 0: where there is none, how many words both slices have.
+pub(crate) fn first_joined<F: Fn(u64, u64) -> u64>(words: &[u64], other: &[u64], word: F) -> usize
+    requires { F.IsAlwaysCallable word }
+    ensures { (op : ℕ → ℕ → ℕ) → Makes (F.post word) op
+        → FirstAt (λ (k : ℕ). op (get_or words.now k 0) (get_or other.now k 0)) (min (length words.now) (length other.now)) result }
 {
-    lesser(blocks_of(a.length), blocks_of(b.length))
-}
-
-// The first word below `end` where the two words, joined by the masks of an operation, are not 0: where there is none the
-// end, or a slice's end if that is less.
-pub(crate) fn first_joined(
-    words: &[u64],
-    other: &[u64],
-    end: usize,
-    first: u64,
-    second: u64,
-    both: u64,
-) -> usize
-    ensures { FirstAt (λ (k : ℕ). masked_join first second both (get_or words.now k 0) (get_or other.now k 0)) (min end (min (length words.now) (length other.now))) result }
-{
-    let stop = lesser(end, lesser(words.len(), other.len()));
-    let mut k = 0;
-    loop {
-        if stop <= k {
-            break k;
+    let end = words.len().min(other.len());
+    for k in 0..end {
+        if word(words[k], other[k]) != 0 {
+            return k;
         }
-        let a = words[k];
-        let b = other[k];
-        if ((a & first) ^ (b & second)) ^ ((a & b) & both) != 0 {
-            break k;
-        }
-        k += 1;
     }
+    end
 }
