@@ -2,6 +2,7 @@
 use mathlib.Core.Path.{◌≡◌, refl, sym, ap, ap₂, ◌∙◌}
 use mathlib.Core.Bool.{true, false, not}
 use mathlib.Core.List.{List, [], ◌∷◌, ◌++◌, append_assoc}
+use mathlib.Core.Logic.{◌⊎◌, inl, inr}
 use mathlib.Core.Option.{Option, none, some}
 use Prim.Native.Nat.{ℕ, ◌+◌, ◌-◌, ◌≤◌, ◌<◌}
 use native.Mathlib.Nat.{add-zero}
@@ -10,6 +11,7 @@ use lib.Dec.{eqb}
 use borrow.Author.Tests.{le-leb, lt-leb}
 use lib.ListN.{length, get_or, take, drop, length-drop, length-append}
 use lib.Seq.{get_or-drop, drop-drop, take-append_seam, drop-append_seam}
+use Rattle.word_bits.proofs.Order.{lt-or-le}
 use Rattle.calls.specs.Calls.{Call, Insert, Remove, Put, Toggle, Set, CopyBit, InsertRange, RemoveRange, ToggleRange, SetRange, Clear, Grow, GrowAndInsert, UnionWith, IntersectWith, DifferenceWith, SymmetricDifferenceWith, InsertAll}
 use Rattle.calls.specs.History.{Called, OnA, OnB}
 use Rattle.calls.specs.Encoding.{listed, decode, decode_one, decode_all, called, encode, list_of, lists_of, encode_all}
@@ -46,13 +48,21 @@ module _ (positions ns : List ℕ) (at : ℕ) where
 -- ---- a part of the lent list
 
 module _ (positions : List ℕ) (start end : ℕ) where
-  pub listed_unordered : end < start → listed positions start end ≡ none
+  listed_unordered : end < start → listed positions start end ≡ none
   unfolding listed
   listed_unordered h = rw (lt-leb start end h)
 
-  pub listed-beyond : start ≤ end → length positions < end → listed positions start end ≡ none
+  listed-beyond : start ≤ end → length positions < end → listed positions start end ≡ none
   unfolding listed
   listed-beyond l h = rw (le-leb start end l, lt-leb end (length positions) h)
+
+  pub listed-missing : (end < start) ⊎ (length positions < end) → listed positions start end ≡ none
+  listed-missing (inl h) = listed_unordered h
+  listed-missing (inr h) = go (lt-or-le end start)
+    where
+      go : (end < start) ⊎ (start ≤ end) → listed positions start end ≡ none
+      go (inl l) = listed_unordered l
+      go (inr l) = listed-beyond l h
 
   pub listed_within : start ≤ end → end ≤ length positions → listed positions start end ≡ some (InsertAll (take (end - start) (drop start positions)))
   unfolding listed

@@ -1,12 +1,19 @@
 -- A list of calls, one after the other. Assumes nothing.
-use mathlib.Core.Path.{◌≡◌, refl, sym}
+use mathlib.Core.Path.{◌≡◌, refl, sym, ap, ◌∙◌}
+use mathlib.Core.Bool.{Bool, true, false, not, cond}
 use mathlib.Core.List.{List, [], ◌∷◌, ◌++◌}
 use mathlib.Core.Option.{Option, none, some}
 use Prim.Native.Nat.{ℕ, ◌<◌, ◌^◌}
 use native.Mathlib.Omega.{arith}
+use borrow.Author.Tests.{ne_eqb}
+use lib.Dec.{eqb}
 use lib.ListN.{length, get_or}
+use Rattle.std.specs.Result.{result_unwrap_or}
+use Rattle.std.proofs.Common.{Result, Ok, Err}
 use Rattle.sets.specs.Members.{Members, read, write, set_of}
-use Rattle.sets.specs.Outcomes.{Outcome}
+use Rattle.sets.specs.Outcomes.{Outcome, outcome}
+use Rattle.sets.specs.Refusals.{edited_of}
+use Rattle.sets.specs.declared.refusal.Refusal.{Refusal}
 use Rattle.sets.specs.declared.fixed_bit_set.FixedBitSet.{FixedBitSet}
 use Rattle.sets.proofs.QuestionLaws.{Valid, valid_yes, first-yes}
 use Rattle.sets.proofs.ReadLaws.{write_read, write_valid}
@@ -15,7 +22,7 @@ use Rattle.sets.proofs.WriteLaws.{read-write, write-write, length-write}
 use Rattle.sets.specs.Questions.{both_questions}
 use Rattle.calls.specs.Calls.{Call}
 use Rattle.calls.specs.History.{State, Called, OnA, OnB, history}
-use Rattle.calls.specs.Encoding.{called}
+use Rattle.calls.specs.Encoding.{called, decode, decode_one}
 use Rattle.calls.specs.Rules.{ReplayOutcome, decoded_rule, stored}
 use Rattle.calls.proofs.SoundLaws.{Sound, Kept, same_kept, sound_read, leaves_kept}
 use Rattle.calls.proofs.CallLaws.{call_holds}
@@ -52,6 +59,11 @@ set_read : (set : FixedBitSet) (ws : List ℕ) → set ≡ set_of (read ws set)
 unfolding read
 set_read set ws = refl
 
+-- a refused call leaves the set
+kept_set : (a : FixedBitSet) (r : Result FixedBitSet Refusal) → result_unwrap_or r a ≡ (edited_of a r).set
+kept_set a (Ok after) = refl
+kept_set a (Err e) = refl
+
 module _ (a : FixedBitSet) (ws : List ℕ) (b : FixedBitSet) (vs : List ℕ) (va : Valid a ws) (vb : Valid b vs) where
   abbrev pub held : State
   held = record { a = read ws a; b = read vs b }
@@ -79,6 +91,46 @@ module _ (a : FixedBitSet) (ws : List ℕ) (b : FixedBitSet) (vs : List ℕ) (va
     on_b (some call) e =
         let h = call_holds call b vs a ws vb va fb in
         rw (e, h.set, h.words, write_read a ws va fa, ← set_read a ws) refl
+
+    -- five numbers: what they call on A, on B, or on neither
+    module _ (positions : List ℕ) (on code x y z : ℕ) where
+      abbrev five : List Called
+      five = decode_one positions on code x y z
+
+      abbrev ended : ReplayOutcome
+      ended = stored ws vs (history (length ws) (length vs) five held)
+
+      pub made_on_a : on ≡ 0 → (call : Option Call) → call ≡ decode positions code x y (not (eqb z 0)) → (r : Result FixedBitSet Refusal) (set : FixedBitSet) (now : List ℕ)
+          → set ≡ result_unwrap_or r a → outcome (edited_of a r) now ≡ decoded_rule a ws b vs call
+          → ◌≡◌ {A = ReplayOutcome} (record { number = 0; a = set; words = now; b = b; other = vs }) ended
+      made_on_a e call d r set now u o =
+          ap (λ (s : FixedBitSet). record { number = 0; a = s; words = now; b = b; other = vs }) (u ∙ kept_set a r) ∙ on_a call o
+          ∙ ap (λ (cs : List Called). stored ws vs (history (length ws) (length vs) cs held))
+          (ap (called OnA) d ∙ ap (λ (k : ℕ). decode_one positions k code x y z) (sym e))
+
+      pub made_on_b : on ≡ 1 → (call : Option Call) → call ≡ decode positions code x y (not (eqb z 0)) → (r : Result FixedBitSet Refusal) (set : FixedBitSet) (now : List ℕ)
+          → set ≡ result_unwrap_or r b → outcome (edited_of b r) now ≡ decoded_rule b vs a ws call
+          → ◌≡◌ {A = ReplayOutcome} (record { number = 0; a = a; words = ws; b = set; other = now }) ended
+      made_on_b e call d r set now u o =
+          ap (λ (s : FixedBitSet). record { number = 0; a = a; words = ws; b = s; other = now }) (u ∙ kept_set b r) ∙ on_b call o
+          ∙ ap (λ (cs : List Called). stored ws vs (history (length ws) (length vs) cs held))
+          (ap (called OnB) d ∙ ap (λ (k : ℕ). decode_one positions k code x y z) (sym e))
+
+      none_made : [] ≡ five → ◌≡◌ {A = ReplayOutcome} (record { number = 0; a = a; words = ws; b = b; other = vs }) ended
+      none_made e = no_call ∙ ap (λ (cs : List Called). stored ws vs (history (length ws) (length vs) cs held)) e
+
+      pub made_on_neither : (on ≡ 0 → ⊥) → (on ≡ 1 → ⊥) → ◌≡◌ {A = ReplayOutcome} (record { number = 0; a = a; words = ws; b = b; other = vs }) ended
+      made_on_neither h k = none_made (rw (ne_eqb on 0 h, ne_eqb on 1 k) refl)
+
+      pub made_none : none ≡ decode positions code x y (not (eqb z 0))
+          → ◌≡◌ {A = ReplayOutcome} (record { number = 0; a = a; words = ws; b = b; other = vs }) ended
+      made_none d =
+          none_made (either (eqb on 0) (eqb on 1) ∙ ap (λ (c : Option Call). cond (eqb on 0) (called OnA c) (cond (eqb on 1) (called OnB c) [])) d)
+        where
+          either : (s t : Bool) → ◌≡◌ {A = List Called} [] (cond s [] (cond t [] []))
+          either true t = refl
+          either false true = refl
+          either false false = refl
 
   -- what some calls leave is what the calls after them get
   module _ (calls : List Called) where

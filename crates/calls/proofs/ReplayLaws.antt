@@ -4,16 +4,33 @@ use mathlib.Core.List.{List}
 use Prim.Native.Nat.{ℕ, ◌+◌, ◌-◌, ◌≤◌, ◌<◌, ◌^◌}
 use native.Mathlib.Omega.{arith}
 use lib.ListN.{length, get_or, drop}
+use Rattle.std.specs.Result.{IsErrAnd}
+use Rattle.std.proofs.Common.{Result}
+use Rattle.std.proofs.lemmas.Result.{err_from_is_err_and}
 use Rattle.sets.specs.Members.{read}
+use Rattle.sets.specs.Outcomes.{given}
+use Rattle.sets.specs.Refusals.{number}
+use Rattle.sets.specs.declared.refusal.Refusal.{Refusal}
+use Rattle.sets.proofs.OutcomeLaws.{given_no}
+use Rattle.sets.proofs.RefusalLaws.{number_ne0}
 use Rattle.sets.specs.declared.fixed_bit_set.FixedBitSet.{FixedBitSet}
 use Rattle.sets.proofs.WriteLaws.{write_fits}
 use Rattle.sets.specs.Questions.{both_questions}
 use Rattle.sets.proofs.QuestionLaws.{both_valid}
 use Rattle.calls.specs.History.{Called, history}
 use Rattle.calls.specs.Encoding.{decode_one, decode_all}
-use Rattle.calls.specs.Rules.{ReplayOutcome, stored}
+use Rattle.calls.specs.Rules.{ReplayOutcome, replay_outcome, replayed_of, stored}
 use Rattle.calls.proofs.EncodingLaws.{decode_at, decode_end}
 use Rattle.calls.proofs.HistoryLaws.{no_call, left_sound, left_sizes, left_then}
+
+-- a list of calls that a refusal ends
+pub replay_refused : (a : FixedBitSet) (ws : List ℕ) (b : FixedBitSet) (vs : List ℕ) (given_else : ReplayOutcome) {n : ℕ}
+    (r : Result (FixedBitSet × FixedBitSet) Refusal) (e : Refusal) → IsErrAnd r (λ d. d ≡ e) → number e ≡ n
+    → replay_outcome (replayed_of a b r) ws vs ≡ given n (λ m. record { number = m; a = a; words = ws; b = b; other = vs }) given_else
+replay_refused a ws b vs given_else r e passed numbered =
+    let p = err_from_is_err_and r passed in
+    ap (λ (x : Result (FixedBitSet × FixedBitSet) Refusal). replay_outcome (replayed_of a b x) ws vs) p.1
+    ∙ given_no (λ m. record { number = m; a = a; words = ws; b = b; other = vs }) given_else (ap number p.2 ∙ numbered) (number_ne0 p.0)
 
 -- what some calls leave of two sets
 abbrev pub ran : List Called → FixedBitSet → List ℕ → FixedBitSet → List ℕ → ReplayOutcome

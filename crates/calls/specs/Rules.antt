@@ -1,8 +1,10 @@
 -- The rule of a call, that of the function of its name, and the rule of a list of calls run one after the other.
-use Rattle.std.specs.Prelude.{List, ℕ, length}
+use Rattle.std.specs.Prelude.{List, ℕ, length, Option as Decoded, None, Some, Result}
 use Rattle.std.proofs.Math.Option.{Option, none, some}
 use Rattle.sets.specs.Members.{read, write, set_of}
 use Rattle.sets.specs.Outcomes.{Outcome, given}
+use Rattle.sets.specs.Refusals.{answer_of}
+use Rattle.sets.specs.declared.refusal.Refusal.{Refusal}
 use Rattle.sets.specs.declared.fixed_bit_set.FixedBitSet.{FixedBitSet}
 use Rattle.edits.specs.Rules.{insert_rule, remove_rule, toggle_rule, set_rule, copy_bit_rule, put_rule}
 use Rattle.edits.specs.Rules.{insert_range_rule, remove_range_rule, toggle_range_rule, set_range_rule}
@@ -12,7 +14,33 @@ use Rattle.two_sets.specs.Rules.{union_with_rule, intersect_with_rule, differenc
 use Rattle.calls.specs.Calls.{Call, Insert, Remove, Put, Toggle, Set, CopyBit, InsertRange, RemoveRange, ToggleRange, SetRange, Clear, Grow, GrowAndInsert, UnionWith, IntersectWith, DifferenceWith, SymmetricDifferenceWith, InsertAll}
 use Rattle.calls.specs.History.{State, history}
 use Rattle.calls.specs.Encoding.{decode_all}
-use Rattle.calls.specs.declared.replayed.Replayed.{Replayed}
+use Rattle.calls.specs.declared.call.Call.{Call as Coded}
+use Rattle.calls.specs.declared.call.Call.TheVariants as coded
+
+-- what a decoded call means
+abbrev pub meant : Coded → Call
+meant (coded.Insert bit) = Insert bit
+meant (coded.Remove bit) = Remove bit
+meant (coded.Put bit) = Put bit
+meant (coded.Toggle bit) = Toggle bit
+meant (coded.Set bit enabled) = Set bit enabled
+meant (coded.CopyBit from to) = CopyBit from to
+meant (coded.InsertRange start end) = InsertRange start end
+meant (coded.RemoveRange start end) = RemoveRange start end
+meant (coded.ToggleRange start end) = ToggleRange start end
+meant (coded.SetRange start end enabled) = SetRange start end enabled
+meant coded.Clear = Clear
+meant (coded.Grow n) = Grow n
+meant (coded.GrowAndInsert bit) = GrowAndInsert bit
+meant coded.UnionWith = UnionWith
+meant coded.IntersectWith = IntersectWith
+meant coded.DifferenceWith = DifferenceWith
+meant coded.SymmetricDifferenceWith = SymmetricDifferenceWith
+meant (coded.InsertAll ps) = InsertAll ps.now
+
+abbrev pub meant_by : Decoded Coded → Option Call
+meant_by None = none
+meant_by (Some call) = some (meant call)
 
 abbrev pub call_rule : FixedBitSet → List ℕ → FixedBitSet → List ℕ → Call → Outcome
 call_rule set ws o vs (Insert bit) = insert_rule set ws bit
@@ -46,6 +74,16 @@ pub record ReplayOutcome : Type 0 where
   pub words : List ℕ
   pub b : FixedBitSet
   pub other : List ℕ
+
+-- both sets, after a list of calls
+pub record Replayed : Type 0 where
+  pub number : ℕ
+  pub a : FixedBitSet
+  pub b : FixedBitSet
+
+-- refused, both sets are as handed in
+abbrev pub replayed_of : FixedBitSet → FixedBitSet → Result (FixedBitSet × FixedBitSet) Refusal → Replayed
+replayed_of a b = answer_of (λ m. record { number = m; a = a; b = b }) (λ after. record { number = 0; a = after.0; b = after.1 })
 
 abbrev pub replay_outcome : Replayed → List ℕ → List ℕ → ReplayOutcome
 replay_outcome r ws vs = record { number = r.number; a = r.a; words = ws; b = r.b; other = vs }

@@ -1,28 +1,28 @@
-use mathlib.Core.Bool.{not}
-use borrow.Author.Tests.{ne_eqb}
-use lib.Dec.{eqb}
-use Rattle.calls.specs.Encoding.{decode}
 use Rattle.sets.proofs.QuestionLaws.{both_valid}
-use Rattle.calls.proofs.HistoryLaws.{no_call, on_a, on_b}
+use Rattle.calls.proofs.HistoryLaws.{made_on_a, made_on_b, made_on_neither, made_none}
 use Rattle.calls.proofs.replays.replay_one.Goals as goal
 
-pub returns-then-on-eq0 : goal.returns-then-on-eq0
-returns-then-on-eq0 c =
+pub returns-in_default : goal.returns-in_default
+returns-in_default c =
     let a = c.args in
     let v = both_valid a.a a.words.now a.b a.other.now c.requires in
-    rw c.if-on-eq0.true
-    (on_a a.a a.words.now a.b a.other.now v.one v.two (λ k. (c.slice_known-1.given k).fits) (λ k. (c.slice_known-2-1.given k).fits) (decode a.positions.now a.code a.x a.y (not (eqb a.z 0))) c.make_call-edited.ensures)
+    made_none a.a a.words.now a.b a.other.now v.one v.two (λ k. (c.slice_known-1.given k).fits) (λ k. (c.slice_known-2-1.given k).fits) a.positions.now a.on a.code a.x a.y a.z c.in_default.ensures
 
-pub returns-then-on-eq1 : goal.returns-then-on-eq1
-returns-then-on-eq1 c =
+pub returns-in-0 : goal.returns-in-0
+returns-in-0 c =
     let a = c.args in
     let v = both_valid a.a a.words.now a.b a.other.now c.requires in
-    rw (ne_eqb _ 0 c.if-on-eq0.false, c.if-on-eq1.true)
-    (on_b a.a a.words.now a.b a.other.now v.one v.two (λ k. (c.slice_known-1.given k).fits) (λ k. (c.slice_known-2-1.given k).fits) (decode a.positions.now a.code a.x a.y (not (eqb a.z 0))) c.make_call-edited-then-on-eq1.ensures)
+    made_on_a a.a a.words.now a.b a.other.now v.one v.two (λ k. (c.slice_known-1.given k).fits) (λ k. (c.slice_known-2-1.given k).fits) a.positions.now a.on a.code a.x a.y a.z c.in-0.is _ c.in-Some.ensures _ _ _ c.unwrap_or.ensures c.make_call.ensures
 
-pub returns : goal.returns
-returns c =
+pub returns-in-1 : goal.returns-in-1
+returns-in-1 c =
     let a = c.args in
     let v = both_valid a.a a.words.now a.b a.other.now c.requires in
-    rw (ne_eqb _ 0 c.if-on-eq0.false, ne_eqb _ 1 c.if-on-eq1.false)
-    (no_call a.a a.words.now a.b a.other.now v.one v.two (λ k. (c.slice_known-1.given k).fits) (λ k. (c.slice_known-2-1.given k).fits))
+    made_on_b a.a a.words.now a.b a.other.now v.one v.two (λ k. (c.slice_known-1.given k).fits) (λ k. (c.slice_known-2-1.given k).fits) a.positions.now a.on a.code a.x a.y a.z c.in-1.is _ c.in-Some.ensures _ _ _ c.unwrap_or-in-1.ensures c.make_call-in-1.ensures
+
+pub returns-in_default-on : goal.returns-in_default-on
+returns-in_default-on c =
+    let a = c.args in
+    let v = both_valid a.a a.words.now a.b a.other.now c.requires in
+    let r = c.in_default-on.in_default-on-own.rest in
+    made_on_neither a.a a.words.now a.b a.other.now v.one v.two (λ k. (c.slice_known-1.given k).fits) (λ k. (c.slice_known-2-1.given k).fits) a.positions.now a.on a.code a.x a.y a.z r.0.1 r.1
