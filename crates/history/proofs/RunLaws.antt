@@ -6,8 +6,14 @@ use native.Mathlib.Omega.{arith}
 use borrow.Author.Tests.{ne_eqb}
 use lib.ListN.{length, drop, get_or, length-map}
 use lib.Seq.{take_at, drop_at}
+use Rattle.std.specs.Result.{IsErrAnd}
+use Rattle.std.proofs.Common.{Result}
+use Rattle.std.proofs.lemmas.Result.{err_from_is_err_and}
 use Rattle.sets.specs.Members.{Members, empty, write, set_of}
 use Rattle.sets.specs.Outcomes.{Outcome, given}
+use Rattle.sets.specs.Refusals.{number}
+use Rattle.sets.specs.declared.refusal.Refusal.{Refusal}
+use Rattle.sets.proofs.RefusalLaws.{number_ne0}
 use Rattle.sets.specs.Questions.{first, new_questions, both_questions}
 use Rattle.sets.proofs.QuestionLaws.{first-both, first-yes, valid_yes}
 use Rattle.sets.proofs.ReadLaws.{write_valid}
@@ -25,8 +31,9 @@ use Rattle.whole_walks.specs.Walks.{walk_list, answers}
 use Rattle.whole_walks.specs.Walked.{Walked}
 use Rattle.whole_walks.specs.Rules.{end_of, answer_word, answer_of, answers_question, WalkOutcome, walk_rule}
 use Rattle.whole_walks.proofs.RecordLaws.{answers_below}
-use Rattle.history.specs.Runs.{Input, questions_of, state_of}
-use Rattle.history.specs.ThirdDemand.{Accepted}
+use Rattle.history.specs.Runs.{Input, Output, output_of, questions_of, ran_of, state_of}
+use Rattle.history.specs.declared.ran.Run.{Run}
+use Rattle.history.specs.ThirdDemand.{Accepted, ThirdDemand}
 use Rattle.history.proofs.DemandLaws.{empty_sound, kept, history-walked}
 
 -- a number of 0 gives what an accepted call leaves
@@ -120,6 +127,21 @@ module _ (i : Input) (go : questions_of i ≡ 0) where
   one_each : length (map answer_word given-answers) ≡ length i.steps
   one_each = length-map given-answers answer_word ∙ demand.answered ∙ length-map i.steps end_of
 
+  -- no call says no once everything is asked
+  pub fresh_a : {x : Outcome} → x ≡ with_capacity_rule i.a_bits ws → x.number ≡ 0
+  fresh_a e = ap (λ (o : Outcome). o.number) (e ∙ yes _ _ passed.0)
+
+  pub fresh_b : {y : Outcome} → y ≡ with_capacity_rule i.b_bits vs → y.number ≡ 0
+  fresh_b f = ap (λ (o : Outcome). o.number) (f ∙ yes _ _ passed.1)
+
+  pub calls-made : {x y : Outcome} {z : ReplayOutcome} → x ≡ with_capacity_rule i.a_bits ws → y ≡ with_capacity_rule i.b_bits vs
+      → z ≡ replay_rule x.set x.words y.set y.words i.calls i.positions → z.number ≡ 0
+  calls-made e f g = ap (λ (v : ReplayOutcome). v.number) (replayed e f g)
+
+  pub walk_made : {x y : Outcome} {z : ReplayOutcome} {w : WalkOutcome} → x ≡ with_capacity_rule i.a_bits ws → y ≡ with_capacity_rule i.b_bits vs
+      → z ≡ replay_rule x.set x.words y.set y.words i.calls i.positions → w ≡ walk_rule z.a z.words z.b z.other i.walk i.steps i.out → w.number ≡ 0
+  walk_made e f g h = ap (λ (v : WalkOutcome). v.number) (walked_over (replayed e f g) h)
+
   pub accepted : {x y : Outcome} {z : ReplayOutcome} {w : WalkOutcome} → x ≡ with_capacity_rule i.a_bits ws → y ≡ with_capacity_rule i.b_bits vs
       → z ≡ replay_rule x.set x.words y.set y.words i.calls i.positions → w ≡ walk_rule z.a z.words z.b z.other i.walk i.steps i.out
       → Accepted i (record { number = w.number; a = z.a; words = z.words; b = z.b; other = z.other; count = w.count; out = w.out })
@@ -135,3 +157,16 @@ module _ (i : Input) (go : questions_of i ≡ 0) where
         walked = rw (w, taken, decoded) demand;
         beyond = ap (λ (v : WalkOutcome). drop (length i.steps) v.out) w ∙ drop_at (map answer_word given-answers) (drop (length i.steps) i.out) (length i.steps) one_each;
       }
+
+-- a run that a question ends
+pub run_refused : (i : Input) (r : Result Run Refusal) (e : Refusal) → IsErrAnd r (λ d. d ≡ e) → number e ≡ questions_of i
+    → ThirdDemand i (output_of (ran_of r) i.words i.other i.out)
+run_refused i r e passed numbered =
+    let p = err_from_is_err_and r passed in
+    record {
+      refused = λ n.
+          ap (λ (x : Result Run Refusal). output_of (ran_of x) i.words i.other i.out) p.1
+          ∙ ap {B = Output} (λ (m : ℕ). record { number = m; a = set_of (empty 0); words = i.words; b = set_of (empty 0); other = i.other; count = 0; out = i.out })
+          (ap number p.2 ∙ numbered);
+      accepted = λ z. absurd (number_ne0 e (numbered ∙ z));
+    }

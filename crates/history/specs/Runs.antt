@@ -1,13 +1,16 @@
 -- A run of a history: what is handed in, what comes back, and which runs are refused.
-use Rattle.std.specs.Prelude.{List, ℕ, length}
+use Rattle.std.specs.Prelude.{List, ℕ, length, Result}
 use Rattle.sets.specs.Members.{set_of, empty}
 use Rattle.sets.specs.Questions.{first, new_questions}
+use Rattle.sets.specs.Refusals.{answer_of}
+use Rattle.sets.specs.declared.refusal.Refusal.{Refusal}
 use Rattle.sets.specs.declared.fixed_bit_set.FixedBitSet.{FixedBitSet}
 use Rattle.calls.specs.Encoding.{decode_all}
 use Rattle.calls.specs.History.{State, history, fresh_sets}
 use Rattle.whole_walks.specs.Rules.{answers_question}
 use Rattle.whole_walks.specs.declared.walk.Walk.{Walk}
 use Rattle.history.specs.declared.ran.Ran.{Ran}
+use Rattle.history.specs.declared.ran.Run.{Run}
 
 -- two lengths with their buffers, the calls as numbers with the list of positions that they name parts of, the walk, the steps as numbers, and the buffer for the answers
 pub record Input : Type 0 where
@@ -32,6 +35,11 @@ pub record Output : Type 0 where
 
 abbrev pub input_of : ℕ → List ℕ → ℕ → List ℕ → List ℕ → List ℕ → Walk → List ℕ → List ℕ → Input
 input_of m ws n vs calls positions walk steps out = record { a_bits = m; words = ws; b_bits = n; other = vs; calls = calls; positions = positions; walk = walk; steps = steps; out = out }
+
+-- a refused run has lengths and count 0
+abbrev pub ran_of : Result Run Refusal → Ran
+ran_of = answer_of (λ m. record { number = m; a = set_of (empty 0); b = set_of (empty 0); count = 0 })
+    (λ run. record { number = 0; a = run.a; b = run.b; count = run.count })
 
 abbrev pub output_of : Ran → List ℕ → List ℕ → List ℕ → Output
 output_of r ws vs out = record { number = r.number; a = r.a; words = ws; b = r.b; other = vs; count = r.count; out = out }

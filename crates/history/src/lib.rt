@@ -4,5 +4,5 @@
 mod ran;
 mod run;
 
-pub use ran::Ran;
+pub use ran::{Ran, Run};
 pub use run::run_history;
