@@ -1,67 +1,98 @@
--- What the words of two sets tell of their positions. Assumes nothing.
+-- What the words of two slices tell of their bits. Assumes nothing.
 use mathlib.Core.Path.{◌≡◌, sym, ap, ap₂, ◌∙◌}
-use mathlib.Core.Bool.{Bool, true, false}
+use mathlib.Core.Bool.{Bool, true, false, not}
 use mathlib.Core.List.{List}
 use mathlib.Core.Logic.{◌⊎◌, inl, inr}
-use Prim.Native.Nat.{ℕ, ◌+◌, ◌*◌, ◌/◌, ◌%◌, ◌≤◌, ◌<◌}
+use Prim.Native.Nat.{ℕ, ◌+◌, ◌*◌, ◌/◌, ◌%◌, ◌≤◌, ◌<◌, min}
 use native.Mathlib.Nat.{div-add-mod'}
 use native.Mathlib.Omega.{arith}
-use lib.ListN.{get_or, get_or-eq_default}
+use borrow.Author.Tests.{le-leb, lt-leb}
+use lib.Dec.{leb}
+use lib.ListN.{length, get_or, get_or-eq_default}
 use Rattle.word_bits.specs.Counts.{some, zeros_below}
 use Rattle.word_bits.specs.Digits.{digit}
 use Rattle.word_bits.proofs.Digits.{digit_of_zero}
 use Rattle.word_bits.proofs.Ends.{below_lt, below_yes}
 use Rattle.word_bits.proofs.Order.{lt-or-le}
 use Rattle.word_bits.proofs.Quantifiers.{some-yes, some_no}
-use Rattle.sets.specs.Checks.{Sound}
-use Rattle.sets.specs.Members.{Members, words_of, read}
-use Rattle.sets.specs.declared.fixed_bit_set.FixedBitSet.{FixedBitSet}
-use Rattle.sets.proofs.QuestionLaws.{valid}
-use Rattle.sets.proofs.ReadLaws.{read-digit, read_above}
-use Rattle.sets.proofs.WordLaws.{words_hold}
-use Rattle.operations.specs.Operations.{joined, joined_word}
+use Rattle.sets.specs.Members.{bit_of}
+use Rattle.sets.proofs.WordLaws.{bit_at}
+use Rattle.tests.proofs.ScanLaws.{first_other, scan_before, scan_stop}
+use Rattle.operations.specs.Operations.{joined, joined_word, made_word}
 use Rattle.operations.specs.declared.operation.Operation.{Operation}
-use Rattle.operations.proofs.WordJoins.{joined-digit, joined-lt}
+use Rattle.operations.specs.declared.operation.Operation.TheVariants.{Intersection, Difference}
+use Rattle.operations.proofs.BlockJoins.{Words}
+use Rattle.operations.proofs.WordJoins.{joined-digit, joined-lt, word_by, first_alone, second_alone}
+use Rattle.comparisons.specs.Helpers.{FirstAt}
 
--- a set's own words have its bits, and past them both are empty
-pub own_digit : (set : FixedBitSet) (ws : List ℕ) → Sound set.length ws → (k j : ℕ) → j < 64 → digit (get_or ws k 0) j ≡ (read ws set).has (k * 64 + j)
-own_digit set ws sound k j l = go (lt-or-le k (words_of set.length))
-  where
-    go : (k < words_of set.length) ⊎ (words_of set.length ≤ k) → digit (get_or ws k 0) j ≡ (read ws set).has (k * 64 + j)
-    go (inl h) = sym (read-digit set ws (valid set ws sound.asked) k j h l)
-    go (inr h) =
-        ap (λ (x : ℕ). digit x j) (get_or-eq_default ws 0 (omega (arith, sound.own))) ∙ digit_of_zero j
-        ∙ sym (read_above ws set (k * 64 + j) (omega (arith, words_hold set.length)))
-
--- position p of the join of two sets
-abbrev pub joined_at : Operation → Members → Members → ℕ → Bool
-joined_at op s o p = joined op (s.has p) (o.has p)
+-- the bits of the join of two rows of words
+abbrev pub joined_row : Operation → List ℕ → List ℕ → ℕ → Bool
+joined_row op ws vs p = joined op (bit_of ws p) (bit_of vs p)
 
 -- word k of the join
 abbrev pub word_at : Operation → List ℕ → List ℕ → ℕ → ℕ
 word_at op ws vs k = joined_word op (get_or ws k 0) (get_or vs k 0)
 
-module _ (op : Operation) (a : FixedBitSet) (ws : List ℕ) (b : FixedBitSet) (vs : List ℕ) (sa : Sound a.length ws) (sb : Sound b.length vs) where
-  digit_at : (k j : ℕ) → j < 64 → digit (word_at op ws vs k) j ≡ joined_at op (read ws a) (read vs b) (k * 64 + j)
-  digit_at k j l = joined-digit op (get_or ws k 0) (get_or vs k 0) j l ∙ ap₂ (joined op) (own_digit a ws sa k j l) (own_digit b vs sb k j l)
+module _ (op : Operation) (ws vs : List ℕ) where
+  digit_at : (k j : ℕ) → j < 64 → digit (word_at op ws vs k) j ≡ joined_row op ws vs (k * 64 + j)
+  digit_at k j l = joined-digit op (get_or ws k 0) (get_or vs k 0) j l ∙ ap₂ (joined op) (sym (bit_at ws k j l)) (sym (bit_at vs k j l))
 
-  -- one of the first n positions is in the join, where a word of it is not 0 and n is past all of them
-  pub joined-some : (n k : ℕ) → (word_at op ws vs k ≡ 0 → ⊥) → ((p : ℕ) → joined_at op (read ws a) (read vs b) p ≡ true → p < n)
-      → some n (joined_at op (read ws a) (read vs b)) ≡ true
-  joined-some n k h under =
+  some_word : (end k : ℕ) → k < end → (word_at op ws vs k ≡ 0 → ⊥) → some (end * 64) (joined_row op ws vs) ≡ true
+  some_word end k h n =
       let w : ℕ = word_at op ws vs k in
-      let low = below_lt 64 w (omega (arith, h)) (joined-lt op (get_or ws k 0) (get_or vs k 0)) in
+      let low = below_lt 64 w (omega (arith, n)) (joined-lt op (get_or ws k 0) (get_or vs k 0)) in
       let place : ℕ = k * 64 + zeros_below 64 (digit w) in
-      let here : joined_at op (read ws a) (read vs b) place ≡ true = sym (digit_at k (zeros_below 64 (digit w)) low) ∙ below_yes 64 (digit w) low in
-      some-yes n (joined_at op (read ws a) (read vs b)) place (under place here) here
+      some-yes (end * 64) (joined_row op ws vs) place (omega (arith, h, low)) (sym (digit_at k (zeros_below 64 (digit w)) low) ∙ below_yes 64 (digit w) low)
 
-  -- none is, where the first `end` words are 0 and none is past them
-  pub joined-none : (n end : ℕ) → ((k : ℕ) → k < end → word_at op ws vs k ≡ 0)
-      → ((p : ℕ) → end * 64 ≤ p → p < n → joined_at op (read ws a) (read vs b) p ≡ false) → some n (joined_at op (read ws a) (read vs b)) ≡ false
-  joined-none n end zs off = some_no n (joined_at op (read ws a) (read vs b)) (λ p l. go p l (lt-or-le p (end * 64)))
+  no_word : (end : ℕ) → ((k : ℕ) → k < end → word_at op ws vs k ≡ 0) → some (end * 64) (joined_row op ws vs) ≡ false
+  no_word end zs =
+      some_no (end * 64) (joined_row op ws vs)
+      (λ p l. ap (joined_row op ws vs) (sym (div-add-mod' p 64)) ∙ sym (digit_at (p / 64) (p % 64) (omega arith))
+      ∙ ap (λ (x : ℕ). digit x (p % 64)) (zs (p / 64) (omega arith)) ∙ digit_of_zero (p % 64))
+
+module _ (ws vs : List ℕ) (fw : Words ws) (fv : Words vs) (r : ℕ) where
+  module _ (op : Operation) (f : FirstAt (λ k. made_word op (get_or ws k 0) (get_or vs k 0)) (min (length ws) (length vs)) r) where
+    by : (k : ℕ) → made_word op (get_or ws k 0) (get_or vs k 0) ≡ word_at op ws vs k
+    by k = word_by op (get_or ws k 0) (get_or vs k 0) (fw.fits k) (fv.fits k)
+
+    pub search_stops : r < min (length ws) (length vs) → some (length ws * 64) (joined_row op ws vs) ≡ true
+    search_stops l = some_word op ws vs (length ws) r (omega arith) (λ z. f.stop l (by r ∙ z))
+
+    before : (k : ℕ) → k < r → word_at op ws vs k ≡ 0
+    before k l = sym (by k) ∙ f.before k l
+
+  pub disjoint_words : FirstAt (λ k. made_word Intersection (get_or ws k 0) (get_or vs k 0)) (min (length ws) (length vs)) r
+      → leb (min (length ws) (length vs)) r ≡ not (some (length ws * 64) (joined_row Intersection ws vs))
+  disjoint_words f = go (lt-or-le r (min (length ws) (length vs)))
     where
-      go : (p : ℕ) → p < n → (p < end * 64) ⊎ (end * 64 ≤ p) → joined_at op (read ws a) (read vs b) p ≡ false
-      go p l (inl m) =
-          ap (joined_at op (read ws a) (read vs b)) (sym (div-add-mod' p 64)) ∙ sym (digit_at (p / 64) (p % 64) (omega arith))
-          ∙ ap (λ (x : ℕ). digit x (p % 64)) (zs (p / 64) (omega arith)) ∙ digit_of_zero (p % 64)
-      go p l (inr m) = off p m l
+      zero : (k : ℕ) → k < length ws → min (length ws) (length vs) ≤ r → (k < r) ⊎ (r ≤ k) → word_at Intersection ws vs k ≡ 0
+      zero k l h (inl m) = before Intersection f k m
+      zero k l h (inr m) =
+          ap (joined_word Intersection (get_or ws k 0)) (get_or-eq_default vs 0 (omega arith)) ∙ sym (first_alone Intersection (get_or ws k 0) (fw.fits k))
+
+      go : (r < min (length ws) (length vs)) ⊎ (min (length ws) (length vs) ≤ r) → leb (min (length ws) (length vs)) r ≡ not (some (length ws * 64) (joined_row Intersection ws vs))
+      go (inl l) = lt-leb (min (length ws) (length vs)) r l ∙ ap not (sym (search_stops Intersection f l))
+      go (inr h) = le-leb (min (length ws) (length vs)) r h ∙ ap not (sym (no_word Intersection ws vs (length ws) (λ k l. zero k l h (lt-or-le k r))))
+
+  -- past the words of both, t is the first word of the first that is not 0
+  pub subset_words : FirstAt (λ k. made_word Difference (get_or ws k 0) (get_or vs k 0)) (min (length ws) (length vs)) r
+      → (t : ℕ) → min (length ws) (length vs) ≤ r → t ≡ first_other (λ k. get_or ws k 0) (min (length ws) (length vs)) (length ws) 0
+      → leb (length ws) t ≡ not (some (length ws * 64) (joined_row Difference ws vs))
+  subset_words f t h e = go (lt-or-le t (length ws))
+    where
+      zero : (k : ℕ) → k < length ws → length ws ≤ t → (k < min (length ws) (length vs)) ⊎ (min (length ws) (length vs) ≤ k) → word_at Difference ws vs k ≡ 0
+      zero k l u (inl m) = before Difference f k (omega arith)
+      zero k l u (inr m) =
+          ap (λ (x : ℕ). joined_word Difference x (get_or vs k 0)) (scan_before (λ i. get_or ws i 0) (min (length ws) (length vs)) (length ws) 0 t e k m (omega arith))
+          ∙ sym (second_alone Difference (get_or vs k 0) (fv.fits k))
+
+      go : (t < length ws) ⊎ (length ws ≤ t) → leb (length ws) t ≡ not (some (length ws * 64) (joined_row Difference ws vs))
+      go (inl l) =
+          let past : get_or vs t 0 ≡ 0 = get_or-eq_default vs 0 (omega (arith, e)) in
+          lt-leb (length ws) t l
+          ∙ ap not (sym (some_word Difference ws vs (length ws) t l
+          (λ z. scan_stop (λ i. get_or ws i 0) (min (length ws) (length vs)) (length ws) 0 t e l
+          (first_alone Difference (get_or ws t 0) (fw.fits t) ∙ ap (joined_word Difference (get_or ws t 0)) (sym past) ∙ z))))
+      go (inr u) =
+          le-leb (length ws) t u
+          ∙ ap not (sym (no_word Difference ws vs (length ws) (λ k l. zero k l u (lt-or-le k (min (length ws) (length vs))))))

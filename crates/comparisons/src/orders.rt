@@ -1,7 +1,10 @@
-ghost use Rattle.std.specs.Prelude.{◌≡◌};
+ghost use Rattle.std.specs.Prelude.{◌≡◌, ℕ, ◌*◌, length};
+ghost use Rattle.std.specs.Bool.{beq};
+ghost use Rattle.word_bits.specs.Counts.{all};
 ghost use Rattle.sets.specs.CheckedSets.{members};
+ghost use Rattle.sets.specs.Members.{bit_of};
 ghost use Rattle.sets.specs.Refusals.{told_of};
-ghost use Rattle.comparisons.specs.Orders.{equal, order};
+ghost use Rattle.comparisons.specs.Orders.{order, words_order};
 ghost use Rattle.comparisons.specs.Compares.{order_number, compared_of};
 ghost use Rattle.comparisons.specs.Rules.{eq_rule, cmp_rule};
 
@@ -16,19 +19,28 @@ pub struct Compared {
     pub order: u64,
 }
 
-// Whether the lengths are equal and no word differs.
-fn same(a: Checked, b: Checked) -> bool
-    ensures { result ≡ equal (members a.entry) (members b.entry) }
+// Whether no word differs, of as many words.
+fn same(words: &[u64], other: &[u64]) -> bool
+    ensures { length words.now ≡ length other.now
+        → result ≡ all (length words.now * 64) (λ (p : ℕ). beq (bit_of words.now p) (bit_of other.now p)) }
 {
-    a.length == b.length && a.words == b.words
+    words == other
 }
 
-// The lengths decide, then the words as unsigned numbers: the first that differ.
+// The order of as many words as unsigned numbers: the first that differ decide.
+fn words_order(words: &[u64], other: &[u64]) -> Ordering
+    ensures { length words.now ≡ length other.now
+        → order_number result ≡ words_order 0 (length words.now) (bit_of words.now) (bit_of other.now) }
+{
+    words.cmp(other)
+}
+
+// The lengths decide, then the words.
 fn order_of(a: Checked, b: Checked) -> Ordering
     ensures { order_number result ≡ order (members a.entry) (members b.entry) }
 {
     match a.length.cmp(&b.length) {
-        Ordering::Equal => a.words.cmp(b.words),
+        Ordering::Equal => words_order(a.words, b.words),
         unequal => unequal,
     }
 }
@@ -38,7 +50,7 @@ pub fn eq(a: FixedBitSet, words: &[u64], b: FixedBitSet, other: &[u64]) -> Resul
     ensures { told_of result ≡ eq_rule a words.now b other.now }
 {
     let (a, b) = Checked::both(a, words, b, other)?;
-    Ok(same(a, b))
+    Ok(a.length == b.length && same(a.words, b.words))
 }
 
 // The order of the two sets: length first, then words from word 0 upwards. Asks 1 to 3 of both sets.

@@ -1,30 +1,30 @@
-ghost use Rattle.std.specs.Prelude.{◌≡◌};
-ghost use Rattle.sets.specs.CheckedSets.{members};
+ghost use Rattle.std.specs.Prelude.{not, ◌&&◌, ◌≡◌, ℕ, ◌*◌, length};
+ghost use Rattle.word_bits.specs.Counts.{some};
+ghost use Rattle.sets.specs.Members.{bit_of};
 ghost use Rattle.sets.specs.Refusals.{told_of};
-ghost use Rattle.comparisons.specs.Relations.{disjoint, subset};
 ghost use Rattle.comparisons.specs.Rules.{is_disjoint_rule, is_subset_rule, is_superset_rule};
 
 use crate::search::first_joined;
 use sets::{Checked, FixedBitSet, Refusal};
 use tests::first_other;
 
-// Whether no word that both sets have holds a common member: beyond them there is none.
-fn disjoint_by_words(a: Checked, b: Checked) -> bool
-    ensures { result ≡ disjoint (members a.entry) (members b.entry) }
+// Whether no bit is set in both: beyond the words that both have there is none.
+fn disjoint_by_words(words: &[u64], other: &[u64]) -> bool
+    ensures { result ≡ not (some (length words.now * 64) (λ (p : ℕ). bit_of words.now p && bit_of other.now p)) }
 {
-    let shared = a.words.len().min(b.words.len());
-    shared <= first_joined(a.words, b.words, |x, y| x & y)
+    let shared = words.len().min(other.len());
+    shared <= first_joined(words, other, |x, y| x & y)
 }
 
-// Whether each member of the first set is in the second: word by word where both have words, and beyond them none.
-fn subset_by_words(a: Checked, b: Checked) -> bool
-    ensures { result ≡ subset (members a.entry) (members b.entry) }
+// Whether each bit of the first words is set in the others: word by word where both have words, and beyond them none.
+fn subset_by_words(words: &[u64], other: &[u64]) -> bool
+    ensures { result ≡ not (some (length words.now * 64) (λ (p : ℕ). bit_of words.now p && not (bit_of other.now p))) }
 {
-    let shared = a.words.len().min(b.words.len());
-    if first_joined(a.words, b.words, |x, y| x & !y) < shared {
+    let shared = words.len().min(other.len());
+    if first_joined(words, other, |x, y| x & !y) < shared {
         return false;
     }
-    a.words.len() <= first_other(a.words, shared, a.words.len(), 0)
+    words.len() <= first_other(words, shared, words.len(), 0)
 }
 
 // Whether the two sets have no common member. Asks 1 to 3 of both sets.
@@ -37,7 +37,7 @@ pub fn is_disjoint(
     ensures { told_of result ≡ is_disjoint_rule a words.now b other.now }
 {
     let (a, b) = Checked::both(a, words, b, other)?;
-    Ok(disjoint_by_words(a, b))
+    Ok(disjoint_by_words(a.words, b.words))
 }
 
 // Whether each member of the first set is in the second. Asks 1 to 3 of both sets.
@@ -50,7 +50,7 @@ pub fn is_subset(
     ensures { told_of result ≡ is_subset_rule a words.now b other.now }
 {
     let (a, b) = Checked::both(a, words, b, other)?;
-    Ok(subset_by_words(a, b))
+    Ok(subset_by_words(a.words, b.words))
 }
 
 // Whether each member of the second set is in the first. Asks 1 to 3 of both sets, in the order of the arguments.
@@ -63,5 +63,5 @@ pub fn is_superset(
     ensures { told_of result ≡ is_superset_rule a words.now b other.now }
 {
     let (a, b) = Checked::both(a, words, b, other)?;
-    Ok(subset_by_words(b, a))
+    Ok(subset_by_words(b.words, a.words))
 }

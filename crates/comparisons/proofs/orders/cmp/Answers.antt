@@ -1,0 +1,14 @@
+use mathlib.Core.Path.{ap, ap₂, ◌∙◌}
+use Prim.Native.Nat.{ℕ}
+use Rattle.sets.proofs.OutcomeLaws.{given_yes}
+use Rattle.sets.proofs.RefusalLaws.{answer_refused}
+use Rattle.comparisons.specs.Orders.{order}
+use Rattle.comparisons.proofs.orders.cmp.Goals as goal
+
+pub returns-in_err-a : goal.returns-in_err-a
+returns-in_err-a c = answer_refused _ _ _ _ _ c.from_residual.ensures.1 c.in_err-a.ensures.number
+
+pub returns : goal.returns
+returns c =
+    let same = c.in_ok-a.ensures.same in
+    given_yes _ c.in_ok-a.ensures.number (ap (λ (n : ℕ). record { number = 0; order = n }) (c.order_of.ensures ∙ ap₂ order same.0 same.1))

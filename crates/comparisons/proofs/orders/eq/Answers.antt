@@ -1,0 +1,30 @@
+use mathlib.Core.Path.{ap, ap₂, ◌∙◌}
+use mathlib.Core.Bool.{Bool}
+use borrow.Author.Tests.{ne_eqb}
+use Rattle.sets.proofs.OutcomeLaws.{given_yes}
+use Rattle.sets.proofs.RefusalLaws.{answer_refused}
+use Rattle.comparisons.specs.Orders.{equal}
+use Rattle.comparisons.proofs.EqualLaws.{equal_no, equal_is}
+use Rattle.comparisons.proofs.orders.eq.Goals as goal
+
+pub returns-in_err-a : goal.returns-in_err-a
+returns-in_err-a c = answer_refused _ _ _ _ _ c.from_residual.ensures.1 c.in_err-a.ensures.number
+
+pub returns-then-a-b : goal.returns-then-a-b
+returns-then-a-b c =
+    let both = c.in_ok-a.ensures.same in
+    let a = c.in_ok-a.a in
+    let b = c.in_ok-a.b in
+    given_yes _ c.in_ok-a.ensures.number
+    (ap (λ (x : Bool). record { number = 0; yes = x })
+    (equal_is (record { length = a.length }) a.words.now (record { length = b.length }) b.words.now a.sound b.sound c.if-a-b.true _ c.same.ensures
+    ∙ ap₂ equal both.0 both.1))
+
+pub returns-else-a-b : goal.returns-else-a-b
+returns-else-a-b c =
+    let both = c.in_ok-a.ensures.same in
+    let a = c.in_ok-a.a in
+    let b = c.in_ok-a.b in
+    given_yes _ c.in_ok-a.ensures.number
+    (ap (λ (x : Bool). record { number = 0; yes = x })
+    (ne_eqb _ _ c.if-a-b.false ∙ equal_no (record { length = a.length }) a.words.now (record { length = b.length }) b.words.now c.if-a-b.false ∙ ap₂ equal both.0 both.1))
