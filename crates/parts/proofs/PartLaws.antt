@@ -1,9 +1,9 @@
 -- The next position of a part, by the first or the last word that has one. Assumes nothing.
-use mathlib.Core.Path.{◌≡◌, refl, sym, ap, ap₂, ◌∙◌}
-use mathlib.Core.Bool.{Bool, true, false, cond, ◌&&◌}
+use mathlib.Core.Path.{◌≡◌, sym, ap, ap₂, ◌∙◌}
+use mathlib.Core.Bool.{Bool, true, false, ◌&&◌}
 use mathlib.Core.Logic.{◌⊎◌, inl, inr}
-use Prim.Native.Nat.{ℕ, zero, suc, ◌+◌, ◌-◌, ◌≤◌, ◌<◌}
-use native.Mathlib.Nat.{le_refl, add-sub_of_le}
+use Prim.Native.Nat.{ℕ, suc, ◌+◌, ◌-◌, ◌≤◌, ◌<◌}
+use native.Mathlib.Nat.{add-sub_of_le}
 use native.Mathlib.Omega.{arith}
 use borrow.Author.Tests.{lt-ltb, le-ltb, ltb-true}
 use lib.Dec.{ltb}
@@ -15,10 +15,8 @@ use Rattle.std.proofs.lemmas.Option.{cond_some}
 use Rattle.sets.specs.Outcomes.{place}
 use Rattle.parts.proofs.CutWords.{both_true}
 use Rattle.parts.specs.Helpers.{top_of, next_from, bottom_of, prev_from}
-use Rattle.parts.specs.Steps.{taken, ahead, behind, front, back, step}
-use Rattle.parts.specs.declared.records.End.{End}
+use Rattle.parts.specs.Steps.{taken, ahead, behind, front, back}
 use Rattle.parts.specs.declared.records.Step.{Step}
-use Rattle.parts.specs.declared.records.End.TheVariants.{Front, Back}
 use Rattle.sets.specs.declared.answers.Part.{Part}
 
 -- ---- a step by its position
@@ -135,34 +133,3 @@ front_cases P has part given lacks = go (ltb (ahead has part) (part.high - part.
     go : (b : Bool) → P (taken b (part.low + ahead has part) (record { low = part.low + ahead has part + 1; high = part.high }) part)
     go true = given (part.low + ahead has part)
     go false = lacks
-
--- ---- a step depends on the positions of the part alone
-
-below_ext : (n : ℕ) (f g : ℕ → Bool) → ((j : ℕ) → j < n → f j ≡ g j) → zeros_below n f ≡ zeros_below n g
-unfolding zeros_below
-below_ext zero f g h = refl
-below_ext (suc n) f g h =
-    ap₂ (λ (b : Bool) (z : ℕ). cond b 0 (suc z)) (h 0 (omega arith)) (below_ext n (λ j. f (suc j)) (λ j. g (suc j)) (λ j l. h (suc j) (omega arith)))
-
-above_ext : (n : ℕ) (f g : ℕ → Bool) → ((j : ℕ) → j < n → f j ≡ g j) → zeros_above n f ≡ zeros_above n g
-unfolding zeros_above
-above_ext zero f g h = refl
-above_ext (suc n) f g h =
-    ap₂ (λ (b : Bool) (z : ℕ). cond b 0 (suc z)) (h n (le_refl (suc n))) (above_ext n f g (λ j l. h j (omega arith)))
-
-module _ (f g : ℕ → Bool) (part : Part) (same : (p : ℕ) → part.low ≤ p → p < part.high → f p ≡ g p) where
-  front_ext : front f part ≡ front g part
-  unfolding front
-  front_ext =
-      ap (λ (z : ℕ). taken (ltb z (part.high - part.low)) (part.low + z) (record { low = part.low + z + 1; high = part.high }) part)
-      (below_ext (part.high - part.low) (λ j. f (part.low + j)) (λ j. g (part.low + j)) (λ j l. same (part.low + j) (omega arith) (omega arith)))
-
-  back_ext : back f part ≡ back g part
-  unfolding back
-  back_ext =
-      ap (λ (z : ℕ). taken (ltb z (part.high - part.low)) (part.high - suc z) (record { low = part.low; high = part.high - suc z }) part)
-      (above_ext (part.high - part.low) (λ j. f (part.low + j)) (λ j. g (part.low + j)) (λ j l. same (part.low + j) (omega arith) (omega arith)))
-
-  pub step_ext : (end : End) → step end f part ≡ step end g part
-  step_ext Front = front_ext
-  step_ext Back = back_ext

@@ -45,9 +45,6 @@ module _ (f g : ℕ → Bool) (steps : List ℕ) (one₀ two₀ : Part) (out₀ 
     pub same : length out ≡ length out₀
     pub stored : take k out ++ words_from k one two ++ drop (length steps) out ≡ answered
 
-  pub answered_none : Answered one₀ two₀ 0 out₀
-  answered_none = record { passed = omega arith; same = refl; stored = refl }
-
   none_left : (one two : Part) → words_from (length steps) one two ≡ []
   unfolding answers_from
   none_left one two = rw (drop-length steps)

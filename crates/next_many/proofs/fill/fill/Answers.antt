@@ -12,7 +12,7 @@ use Rattle.parts.specs.Selections.{selected}
 use Rattle.parts.proofs.SelectLaws.{select_lt, select_row}
 use Rattle.next_many.specs.Helpers.{FillOutcome, filled}
 use Rattle.next_many.proofs.BufferLaws.{filled_over}
-use Rattle.next_many.proofs.FillLaws.{Filling, filling_start, filling_word, filling_over, filling_full, filling_past, filling_position, filling_in, filling_out, lowest_lt, lowest_le}
+use Rattle.next_many.proofs.FillLaws.{Filling, filling_start, filling_word, filling_over, filling_full, filling_past, filling_position, filling_out, lowest_lt, lowest_le}
 use Rattle.next_many.proofs.fill.fill.Goals as goal
 use Rattle.next_many.proofs.fill.fill.Goals.{After-trailing_zeros, At-loop-rest-2, Else-high-low, Else-out-count}
 use Rattle.next_many.proofs.fill.fill.Given.{Over}
@@ -50,33 +50,18 @@ returns-then-high-low g c =
     let a = c.args in
     sym (filled_over _ a.high a.from a.low a.out.now (λ p l h. absurd (omega (arith, c.if-high-low.true))))
 
-pub bounds-words-k : goal.bounds-words-k
-bounds-words-k g c = omega (arith, c.requires, c.if-high-low.false)
-
 pub loop-rest-init : goal.loop-rest-init
 loop-rest-init g c =
     let low = c.args.low in
     filling_start _ _ _ _ (fit g (goal.at.loop-rest-init g c).Else-high-low (low / 64)) c.if-high-low.false
     (ap₂ bit_and (c.word.ensures ∙ ap (select_word g.S.Select.selection _) c.block.ensures) (shifted_up (low % 64) (omega arith))) refl refl
 
-pub loop-rest-2-init : goal.loop-rest-2-init
-loop-rest-2-init g c = filling_in _ _ _ _ c.loop-rest.invariant
-
-pub overflow_mul-p : goal.overflow_mul-p
-overflow_mul-p g c = omega (arith, c.loop-rest-2.invariant.inside)
-
 pub overflow_add-p : goal.overflow_add-p
 overflow_add-p g c = omega (arith, below_64 g (goal.at.overflow_add-p g c).After-trailing_zeros, c.loop-rest-2.invariant.inside)
-
-pub shape_of-out-then-high-p : goal.shape_of-out-then-high-p
-shape_of-out-then-high-p g c = (through g (goal.at.shape_of-out-then-high-p g c).At-loop-rest-2).same
 
 pub returns-then-high-p : goal.returns-then-high-p
 returns-then-high-p g c =
     by_words g (goal.at.returns-then-high-p g c).Else-high-low (filling_past _ _ _ _ (through g (goal.at.returns-then-high-p g c).At-loop-rest-2) c.loop-rest-2-test.true (rw (← c.trailing_zeros.ensures) c.if-high-p.true))
-
-pub shape_of-out-then-out-count : goal.shape_of-out-then-out-count
-shape_of-out-then-out-count g c = (through g (goal.at.shape_of-out-then-out-count g c).At-loop-rest-2).same
 
 pub returns-then-out-count : goal.returns-then-out-count
 returns-then-out-count g c =
@@ -89,19 +74,9 @@ pub loop-rest-2-preserved : goal.loop-rest-2-preserved
 loop-rest-2-preserved g c =
     filling_position _ _ _ _ c.loop-rest-2.invariant c.loop-rest-2-test.true (ap (λ (t : ℕ). c.loop-rest.k * 64 + t) c.trailing_zeros.ensures) c.if-high-p.false c.if-out-count.false
 
-pub overflow_add-k : goal.overflow_add-k
-overflow_add-k g c = omega (arith, c.loop-rest-2.invariant.inside)
-
-pub shape_of-out-then-end-k : goal.shape_of-out-then-end-k
-shape_of-out-then-end-k g c = (through g (goal.at.shape_of-out-then-end-k g c).At-loop-rest-2).same
-
 pub returns-then-end-k : goal.returns-then-end-k
 returns-then-end-k g c =
     by_words g (goal.at.returns-then-end-k g c).Else-high-low (filling_over _ _ _ _ (through g (goal.at.returns-then-end-k g c).At-loop-rest-2) c.loop-rest-2-test.false c.if-end-k.true)
-
-pub bounds-words-k-in-loop-rest : goal.bounds-words-k-in-loop-rest
-bounds-words-k-in-loop-rest g c =
-    omega (arith, c.requires, c.if-high-low.false, c.if-end-k.false)
 
 pub loop-rest-preserved : goal.loop-rest-preserved
 loop-rest-preserved g c =
