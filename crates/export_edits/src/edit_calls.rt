@@ -13,35 +13,35 @@ use sets::{Edited, FixedBitSet};
 pub extern "C" fn fbs_insert(set: FixedBitSet, words: &mut [u64], bit: usize) -> Edited
     ensures { outcome result words.new ≡ insert_rule set words.old bit }
 {
-    insert(set, words, bit)
+    Edited::new(set, insert(set, words, bit))
 }
 
 #[unsafe(no_mangle)]
 pub extern "C" fn fbs_remove(set: FixedBitSet, words: &mut [u64], bit: usize) -> Edited
     ensures { outcome result words.new ≡ remove_rule set words.old bit }
 {
-    remove(set, words, bit)
+    Edited::new(set, remove(set, words, bit))
 }
 
 #[unsafe(no_mangle)]
 pub extern "C" fn fbs_put(set: FixedBitSet, words: &mut [u64], bit: usize) -> Replaced
     ensures { put_outcome result words.new ≡ put_rule set words.old bit }
 {
-    put(set, words, bit)
+    Replaced::new(set, put(set, words, bit))
 }
 
 #[unsafe(no_mangle)]
 pub extern "C" fn fbs_toggle(set: FixedBitSet, words: &mut [u64], bit: usize) -> Edited
     ensures { outcome result words.new ≡ toggle_rule set words.old bit }
 {
-    toggle(set, words, bit)
+    Edited::new(set, toggle(set, words, bit))
 }
 
 #[unsafe(no_mangle)]
 pub extern "C" fn fbs_set(set: FixedBitSet, words: &mut [u64], bit: usize, enabled: bool) -> Edited
     ensures { outcome result words.new ≡ set_rule set words.old bit enabled }
 {
-    edits::set(set, words, bit, enabled)
+    Edited::new(set, edits::set(set, words, bit, enabled))
 }
 
 #[unsafe(no_mangle)]
@@ -53,7 +53,7 @@ pub extern "C" fn fbs_copy_bit(
 ) -> Edited
     ensures { outcome result words.new ≡ copy_bit_rule set words.old from to }
 {
-    copy_bit(set, words, from, to)
+    Edited::new(set, copy_bit(set, words, from, to))
 }
 
 #[unsafe(no_mangle)]
@@ -65,7 +65,7 @@ pub extern "C" fn fbs_insert_range(
 ) -> Edited
     ensures { outcome result words.new ≡ insert_range_rule set words.old start end }
 {
-    insert_range(set, words, start, end)
+    Edited::new(set, insert_range(set, words, start, end))
 }
 
 #[unsafe(no_mangle)]
@@ -77,7 +77,7 @@ pub extern "C" fn fbs_remove_range(
 ) -> Edited
     ensures { outcome result words.new ≡ remove_range_rule set words.old start end }
 {
-    remove_range(set, words, start, end)
+    Edited::new(set, remove_range(set, words, start, end))
 }
 
 #[unsafe(no_mangle)]
@@ -89,7 +89,7 @@ pub extern "C" fn fbs_toggle_range(
 ) -> Edited
     ensures { outcome result words.new ≡ toggle_range_rule set words.old start end }
 {
-    toggle_range(set, words, start, end)
+    Edited::new(set, toggle_range(set, words, start, end))
 }
 
 #[unsafe(no_mangle)]
@@ -102,33 +102,33 @@ pub extern "C" fn fbs_set_range(
 ) -> Edited
     ensures { outcome result words.new ≡ set_range_rule set words.old start end enabled }
 {
-    set_range(set, words, start, end, enabled)
+    Edited::new(set, set_range(set, words, start, end, enabled))
 }
 
 #[unsafe(no_mangle)]
 pub extern "C" fn fbs_clear(set: FixedBitSet, words: &mut [u64]) -> Edited
     ensures { outcome result words.new ≡ clear_rule set words.old }
 {
-    clear(set, words)
+    Edited::new(set, clear(set, words))
 }
 
 #[unsafe(no_mangle)]
 pub extern "C" fn fbs_grow(set: FixedBitSet, words: &mut [u64], bits: usize) -> Edited
     ensures { outcome result words.new ≡ grow_rule set words.old bits }
 {
-    grow(set, words, bits)
+    Edited::new(set, grow(set, words, bits))
 }
 
 #[unsafe(no_mangle)]
 pub extern "C" fn fbs_grow_and_insert(set: FixedBitSet, words: &mut [u64], bit: usize) -> Edited
     ensures { outcome result words.new ≡ grow_and_insert_rule set words.old bit }
 {
-    grow_and_insert(set, words, bit)
+    Edited::new(set, grow_and_insert(set, words, bit))
 }
 
 #[unsafe(no_mangle)]
 pub extern "C" fn fbs_insert_all(set: FixedBitSet, words: &mut [u64], positions: &[u64]) -> Edited
     ensures { outcome result words.new ≡ insert_all_rule set words.old positions.now }
 {
-    insert_all(set, words, positions)
+    Edited::new(set, insert_all(set, words, positions))
 }

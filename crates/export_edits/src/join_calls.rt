@@ -17,7 +17,7 @@ pub extern "C" fn fbs_union_with(
 ) -> Edited
     ensures { outcome result words.new ≡ union_with_rule a words.old b other.now }
 {
-    union_with(a, words, b, other)
+    Edited::new(a, union_with(a, words, b, other))
 }
 
 #[unsafe(no_mangle)]
@@ -29,7 +29,7 @@ pub extern "C" fn fbs_intersect_with(
 ) -> Edited
     ensures { outcome result words.new ≡ intersect_with_rule a words.old b other.now }
 {
-    intersect_with(a, words, b, other)
+    Edited::new(a, intersect_with(a, words, b, other))
 }
 
 #[unsafe(no_mangle)]
@@ -41,7 +41,7 @@ pub extern "C" fn fbs_difference_with(
 ) -> Edited
     ensures { outcome result words.new ≡ difference_with_rule a words.old b other.now }
 {
-    difference_with(a, words, b, other)
+    Edited::new(a, difference_with(a, words, b, other))
 }
 
 #[unsafe(no_mangle)]
@@ -53,7 +53,7 @@ pub extern "C" fn fbs_symmetric_difference_with(
 ) -> Edited
     ensures { outcome result words.new ≡ symmetric_difference_with_rule a words.old b other.now }
 {
-    symmetric_difference_with(a, words, b, other)
+    Edited::new(a, symmetric_difference_with(a, words, b, other))
 }
 
 #[unsafe(no_mangle)]
@@ -66,7 +66,7 @@ pub extern "C" fn fbs_bitand(
 ) -> Edited
     ensures { outcome result out.new ≡ bitand_rule a words.now b other.now out.old }
 {
-    bitand(a, words, b, other, out)
+    Edited::new(FixedBitSet::new(0), bitand(a, words, b, other, out))
 }
 
 #[unsafe(no_mangle)]
@@ -79,7 +79,7 @@ pub extern "C" fn fbs_bitor(
 ) -> Edited
     ensures { outcome result out.new ≡ bitor_rule a words.now b other.now out.old }
 {
-    bitor(a, words, b, other, out)
+    Edited::new(FixedBitSet::new(0), bitor(a, words, b, other, out))
 }
 
 #[unsafe(no_mangle)]
@@ -92,5 +92,5 @@ pub extern "C" fn fbs_bitxor(
 ) -> Edited
     ensures { outcome result out.new ≡ bitxor_rule a words.now b other.now out.old }
 {
-    bitxor(a, words, b, other, out)
+    Edited::new(FixedBitSet::new(0), bitxor(a, words, b, other, out))
 }

@@ -14,7 +14,7 @@ use sets::{Counted, Edited, FixedBitSet, Told};
 pub extern "C" fn fbs_with_capacity(bits: usize, words: &mut [u64]) -> Edited
     ensures { outcome result words.new ≡ with_capacity_rule bits words.old }
 {
-    with_capacity(bits, words)
+    Edited::new(FixedBitSet::new(0), with_capacity(bits, words))
 }
 
 #[unsafe(no_mangle)]
@@ -25,21 +25,24 @@ pub extern "C" fn fbs_with_capacity_and_blocks(
 ) -> Edited
     ensures { outcome result words.new ≡ with_capacity_and_blocks_rule bits blocks.now words.old }
 {
-    with_capacity_and_blocks(bits, blocks, words)
+    Edited::new(
+        FixedBitSet::new(0),
+        with_capacity_and_blocks(bits, blocks, words),
+    )
 }
 
 #[unsafe(no_mangle)]
 pub extern "C" fn fbs_len(set: FixedBitSet, words: &[u64]) -> Counted
     ensures { result ≡ len_rule set words.now }
 {
-    len(set, words)
+    Counted::from(len(set, words))
 }
 
 #[unsafe(no_mangle)]
 pub extern "C" fn fbs_is_empty(set: FixedBitSet, words: &[u64]) -> Told
     ensures { result ≡ is_empty_rule set words.now }
 {
-    is_empty(set, words)
+    Told::from(is_empty(set, words))
 }
 
 #[unsafe(no_mangle)]
@@ -56,5 +59,8 @@ pub extern "C" fn fbs_as_slice(set: FixedBitSet, words: &[u64]) -> FbsSlice
 pub extern "C" fn fbs_as_slice_number(set: FixedBitSet, words: &[u64]) -> u64
     ensures { result ≡ questions set words.now }
 {
-    as_slice_number(set, words)
+    match as_slice_number(set, words) {
+        Ok(()) => 0,
+        Err(refusal) => refusal.into(),
+    }
 }
