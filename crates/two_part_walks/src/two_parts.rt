@@ -24,7 +24,8 @@ fn place(one: Part, two: Part, step: RowStep) -> PairStep
     }
 }
 
-// The first part is what `S` selects of the first set; the second, in each walk here, the second set without the first.
+// The first part is what `S` selects of the first set; the second, in each walk here, the second set without the first. Written out in each call, where its end is known.
+#[inline(always)]
 fn two_part_step<S: Select>(
     a: FixedBitSet,
     words: &[u64],

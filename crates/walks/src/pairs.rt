@@ -9,6 +9,8 @@ use crate::rows::step_row;
 use parts::{Difference, End, Intersection, Select, Step};
 use sets::{Checked, FixedBitSet, Part, Refusal};
 
+// Written out in each call, where its end is known.
+#[inline(always)]
 fn pair_step<S: Select>(
     a: FixedBitSet,
     words: &[u64],
