@@ -2,14 +2,15 @@
 use mathlib.Core.Path.{◌≡◌, sym, ap, ◌∙◌}
 use mathlib.Core.Bool.{Bool}
 use mathlib.Core.List.{List, [], ◌∷◌, ◌++◌, append_assoc, append-nil}
-use Prim.Native.Nat.{ℕ, suc, ◌+◌, ◌≤◌, ◌<◌}
+use Prim.Native.Nat.{ℕ, suc, ◌+◌, ◌<◌}
 use native.Mathlib.Nat.{add-zero}
 use native.Mathlib.Numerals.{add-one}
 use native.Mathlib.Omega.{arith}
 use lib.ListN.{length, get_or, take}
-use lib.Seq.{take-suc, take_all, length-take-le}
-use Rattle.byte_texts.specs.Texts.{written}
-use Rattle.byte_texts.proofs.TextLaws.{written_none, written_then}
+use lib.Seq.{take-suc, length-take-le}
+use Rattle.byte_texts.specs.Growth.{Appended}
+use Rattle.byte_texts.specs.declared.texts.Text.{Text}
+use Rattle.byte_texts.proofs.GrowthLaws.{appended_then, appended_as}
 use Rattle.pair_listings.specs.Tables.{partner}
 use Rattle.pair_listings.specs.Lines.{pair_text, pair_lines_text}
 
@@ -39,23 +40,9 @@ module _ (sheet : Bool) (total : ℕ) (table : ℕ → ℕ) where
         ∙ sym (lines-append (take k offsets) (get_or offsets k 0 ∷ []) place)
         ∙ ap (lines place) (sym (take-suc offsets k 0 l) ∙ ap (λ (i : ℕ). take i offsets) (sym (add-one k)))
 
-    -- ---- the loop that writes them: so many are written
+    -- ---- the loop that writes them: k of them are written
 
-    module _ (out : List ℕ) (at : ℕ) where
-      pub record Lining (now : List ℕ) (end k : ℕ) : Type 0 where
-        pub inside : k ≤ length offsets
-        pub done : record { end = end; out = now } ≡ written out at (lines place (take k offsets))
-
-      pub lining_start : at ≤ length out → Lining out at 0
-      unfolding pair_lines_text
-      lining_start h = record { inside = omega arith; done = sym (written_none out at h) }
-
-      pub lining_more : {now next : List ℕ} {end stop k other : ℕ} → Lining now end k → k < length offsets → other ≡ partner table (get_or offsets k 0)
-          → record { end = stop; out = next } ≡ written now end (pair_text sheet total (place + k) (get_or offsets k 0) other) → Lining next stop (k + 1)
-      lining_more {now} {next} {end} {stop} {k} h l q e = record {
-        inside = omega arith;
-        done = written_then out at _ _ h.done (e ∙ ap (λ (x : ℕ). written now end (pair_text sheet total (place + k) (get_or offsets k 0) x)) q) ∙ ap (written out at) (lines_more k l);
-      }
-
-      pub lining_end : {now : List ℕ} {end k : ℕ} → Lining now end k → length offsets ≤ k → record { end = end; out = now } ≡ written out at (lines place offsets)
-      lining_end {k = k} h l = h.done ∙ ap (λ (ps : List ℕ). written out at (lines place ps)) (take_all k offsets l)
+    pub lined_more : {start now next : Text} {k other : ℕ} → Appended start now (lines place (take k offsets)) → k < length offsets → other ≡ partner table (get_or offsets k 0)
+        → Appended now next (pair_text sheet total (place + k) (get_or offsets k 0) other) → Appended start next (lines place (take (k + 1) offsets))
+    lined_more {k = k} h l q e =
+        appended_as (appended_then h (appended_as e (ap (pair_text sheet total (place + k) (get_or offsets k 0)) q))) (lines_more k l)

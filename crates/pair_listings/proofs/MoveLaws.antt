@@ -13,9 +13,7 @@ use Rattle.word_bits.proofs.Quantifiers.{some_no}
 use Rattle.sets.specs.Members.{Members, words_of, write, set_of, empty}
 use Rattle.sets.specs.Outcomes.{Outcome, edited}
 use Rattle.sets.specs.Questions.{questions, new_questions}
-use Rattle.sets.specs.declared.fixed_bit_set.FixedBitSet.{FixedBitSet}
-use Rattle.sets.proofs.OutcomeLaws.{edited_no}
-use Rattle.sets.proofs.QuestionLaws.{first_no, first-yes}
+use Rattle.sets.proofs.QuestionLaws.{first-yes}
 use Rattle.edits.specs.Rules.{insert_rule}
 use Rattle.pair_listings.specs.Tables.{all_offsets, offsets_of, is_named, partner, moves_to, moved_below, moved_by, move_members_rule}
 use Rattle.pair_listings.proofs.SetLaws.{held, written_held, write_insert}
@@ -85,8 +83,5 @@ module _ (to : ℕ → ℕ) (s : Members) where
 -- the rule
 
 module _ (to : ℕ → ℕ) (ws vs : List ℕ) where
-  pub moved-refused : {n : ℕ} {set : FixedBitSet} → set ≡ set_of (empty 0) → n ≡ questions all_offsets ws → (n ≡ 0 → ⊥) → record { number = n; set = set; words = vs } ≡ move_members_rule ws to vs
-  moved-refused {n} e q z = ap (λ (x : FixedBitSet). record { number = n; set = x; words = vs }) e ∙ edited_no (set_of (empty 0)) vs (moved_by to (offsets_of ws)) (first_no (new_questions 65536 (length vs)) q z) z
-
   pub moved_rule : {x : Outcome} → questions all_offsets ws ≡ 0 → x ≡ edited (new_questions 65536 (length vs)) (set_of (empty 0)) vs (moved_by to (offsets_of ws)) → x ≡ move_members_rule ws to vs
   moved_rule q e = e ∙ ap (λ (n : ℕ). edited n (set_of (empty 0)) vs (moved_by to (offsets_of ws))) (first-yes q refl)

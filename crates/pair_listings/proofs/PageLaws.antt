@@ -10,10 +10,9 @@ use lib.Seq.{length-take-le}
 use Rattle.sets.specs.Members.{Members}
 use Rattle.pair_listings.specs.Tables.{offsets_of}
 use Rattle.pair_listings.specs.Pages.{pairs_text, lines_text, stage_text, rest_text, first_page}
-use Rattle.pair_listings.specs.Pieces.{stage_number, PieceRight, work_left, Ready, Run, done, next}
+use Rattle.pair_listings.specs.Pieces.{Piece, stage_number, PieceRight, work_left, Ready, Run, done, next}
 use Rattle.pair_listings.specs.declared.jobs.Job.{Job}
 use Rattle.pair_listings.specs.declared.jobs.Page.{Page}
-use Rattle.pair_listings.specs.declared.jobs.Piece.{Piece}
 use Rattle.pair_listings.specs.declared.jobs.Stage.{Stage}
 use Rattle.pair_listings.proofs.WalkLaws.{all_left, few, first-asked}
 

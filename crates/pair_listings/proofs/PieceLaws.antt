@@ -12,6 +12,7 @@ use lib.ListN.{length, take, drop, length-take, length-drop, take-append-drop}
 use Rattle.word_bits.proofs.Order.{lt-or-le}
 use Rattle.byte_texts.specs.Texts.{Written, written}
 use Rattle.byte_texts.proofs.TextLaws.{written_same, written_room, written-whole, written_end}
+use Rattle.std.specs.Prelude.{None}
 use Rattle.sets.specs.Members.{Members}
 use Rattle.two_set_counts.specs.Lists.{ones_list}
 use Rattle.listing_lines.specs.Lines.{count_text}
@@ -20,10 +21,9 @@ use Rattle.next_many.specs.declared.answers.NextMany.{NextMany}
 use Rattle.pair_listings.specs.Tables.{offsets_of}
 use Rattle.pair_listings.specs.Lines.{pair_lines_text, pairs_complete_text}
 use Rattle.pair_listings.specs.Pages.{last_text, lines_text, members_left, stage_text, rest_text}
-use Rattle.pair_listings.specs.Pieces.{stage_number, page_after, no_piece, PieceRight, Ready, Able, PieceSure}
+use Rattle.pair_listings.specs.Pieces.{Piece, stage_number, page_after, piece_of, PieceRight, Ready, Able, PieceSure}
 use Rattle.pair_listings.specs.declared.jobs.Job.{Job}
 use Rattle.pair_listings.specs.declared.jobs.Page.{Page}
-use Rattle.pair_listings.specs.declared.jobs.Piece.{Piece}
 use Rattle.pair_listings.specs.declared.jobs.Stage.{Stage}
 use Rattle.pair_listings.specs.declared.jobs.Stage.TheVariants.{Lines, Last, Over}
 use Rattle.pair_listings.proofs.LengthLaws.{lines_most, lines-least, complete_most}
@@ -54,13 +54,11 @@ module _ (job : Job) (table : ℕ → ℕ) (ws : List ℕ) (page : Page) where
 
   -- ---- a piece that is not whole, which no page that is ready comes to
 
-  pub none_right : {out : List ℕ} {r : Piece} → r ≡ no_piece page → PieceRight job table s page out r
-  none_right {out} e =
-      subst⁻¹ (PieceRight job table s page out) e
-      (record { fits = omega arith; text = λ w. absurd (false≢true w); later = λ w. absurd (false≢true w); moves = λ w i. absurd (false≢true w) })
+  pub none_right : {out : List ℕ} → PieceRight job table s page out (piece_of page None)
+  none_right = record { fits = omega arith; text = λ w. absurd (false≢true w); later = λ w. absurd (false≢true w); moves = λ w i. absurd (false≢true w) }
 
-  pub no_piece_lem : {out : List ℕ} {r : Piece} → r ≡ no_piece page → (Able s page out → ⊥) → PieceWell out r
-  no_piece_lem e f = (none_right e, λ a. absurd (f a))
+  pub no_piece : {out : List ℕ} → (Able s page out → ⊥) → PieceWell out (piece_of page None)
+  no_piece f = (none_right, λ a. absurd (f a))
 
   -- ---- lines
 

@@ -7,7 +7,13 @@ use native.Mathlib.Nat.{le_refl}
 use lib.Dec.{eqb}
 use lib.ListN.{length}
 use Rattle.sets.specs.Members.{Members, words_of, write, read, changed, set_of, empty}
-use Rattle.sets.specs.Outcomes.{Outcome, edited}
+use Rattle.std.specs.Prelude.{Result, Err, IsErrAnd}
+use Rattle.std.proofs.lemmas.Result.{err_from_is_err_and}
+use Rattle.sets.proofs.RefusalLaws.{number_ne0}
+use Rattle.sets.specs.Outcomes.{Outcome, outcome, edited}
+use Rattle.sets.specs.Refusals.{number, edited_of}
+use Rattle.sets.specs.declared.fixed_bit_set.FixedBitSet.{FixedBitSet}
+use Rattle.sets.specs.declared.refusal.Refusal.{Refusal}
 use Rattle.sets.specs.Questions.{questions, new_questions}
 use Rattle.sets.specs.Rules.{with_capacity_rule}
 use Rattle.sets.proofs.OutcomeLaws.{given_yes, given-refused, given-accepted}
@@ -58,18 +64,23 @@ module _ (vs : List ℕ) where
   abbrev refusal : ℕ → Outcome
   refusal n = record { number = n; set = set_of (empty 0); words = vs }
 
-  pub made_no : {x : Outcome} → x ≡ with_capacity_rule 65536 vs → (x.number ≡ 0 → ⊥) → (m : Members) → x ≡ edited (new_questions 65536 (length vs)) (set_of (empty 0)) vs m
-  made_no e z m =
-      given-refused (λ (x : Outcome). x.number) refusal (record { number = 0; set = all_offsets; words = write vs (empty 65536) }) (record { number = 0; set = set_of m; words = write vs m })
-      (new_questions 65536 (length vs)) refl e z
+  -- it is refused by its number, whatever it would become
+  pub made_no : (r : Result FixedBitSet Refusal) (e : Refusal) → IsErrAnd r (λ d. d ≡ e) → {ws : List ℕ}
+      → ◌≡◌ {A = Outcome} (record { number = number e; set = set_of (empty 0); words = ws }) (with_capacity_rule 65536 vs)
+      → (m : Members) → outcome (edited_of (set_of (empty 0)) r) ws ≡ edited (new_questions 65536 (length vs)) (set_of (empty 0)) vs m
+  made_no r e passed {ws} d m =
+      let p = err_from_is_err_and r passed in
+      ap (λ (x : Result FixedBitSet Refusal). outcome (edited_of (set_of (empty 0)) x) ws) (p.1 ∙ ap Err p.2)
+      ∙ given-refused (λ (x : Outcome). x.number) refusal (record { number = 0; set = all_offsets; words = write vs (empty 65536) }) (record { number = 0; set = set_of m; words = write vs m })
+      (new_questions 65536 (length vs)) refl d (number_ne0 e)
 
-  module _ {x : Outcome} (e : x ≡ with_capacity_rule 65536 vs) (z : x.number ≡ 0) where
-    accepted_set : (new_questions 65536 (length vs) ≡ 0) × (x ≡ record { number = 0; set = all_offsets; words = write vs (empty 65536) })
+  module _ {made : FixedBitSet} {ws : List ℕ} (e : ◌≡◌ {A = Outcome} (record { number = 0; set = made; words = ws }) (with_capacity_rule 65536 vs)) where
+    accepted_set : (new_questions 65536 (length vs) ≡ 0) × (◌≡◌ {A = Outcome} (record { number = 0; set = made; words = ws }) (record { number = 0; set = all_offsets; words = write vs (empty 65536) }))
     accepted_set =
-        given-accepted (λ (x : Outcome). x.number) refusal (record { number = 0; set = all_offsets; words = write vs (empty 65536) }) (new_questions 65536 (length vs)) (λ n. refl) e z
+        given-accepted (λ (x : Outcome). x.number) refusal (record { number = 0; set = all_offsets; words = write vs (empty 65536) }) (new_questions 65536 (length vs)) (λ n. refl) e refl
 
-    pub made_yes : (m : ℕ → Bool) {ws : List ℕ} → (words_of 65536 ≤ length vs → x.words ≡ write vs (empty 65536) → ws ≡ write vs (held m))
-        → record { number = x.number; set = x.set; words = ws } ≡ edited (new_questions 65536 (length vs)) (set_of (empty 0)) vs (held m)
+    pub made_yes : (m : ℕ → Bool) {after : List ℕ} → (words_of 65536 ≤ length vs → ws ≡ write vs (empty 65536) → after ≡ write vs (held m))
+        → ◌≡◌ {A = Outcome} (record { number = 0; set = made; words = after }) (edited (new_questions 65536 (length vs)) (set_of (empty 0)) vs (held m))
     made_yes m h =
         given_yes refusal (sym accepted_set.0)
         (ap₂ (λ (y : Outcome) (ws : List ℕ). record { number = y.number; set = y.set; words = ws }) accepted_set.1

@@ -5,10 +5,14 @@ use Prim.Native.Nat.{ℕ, ◌≤◌}
 use native.Mathlib.Omega.{arith}
 use lib.ListN.{length, take, drop, length-append, length-take}
 use lib.Seq.{take_at}
+use Rattle.std.specs.Prelude.{Result, Ok, Err}
+use Rattle.std.specs.Result.{result_unwrap_or}
 use Rattle.word_bits.proofs.Ones.{count-le}
 use Rattle.sets.specs.Members.{Members, read}
 use Rattle.sets.specs.Questions.{questions, part_question, part_questions, both_questions}
+use Rattle.sets.specs.Refusals.{counted_of}
 use Rattle.sets.specs.declared.answers.Counted.{Counted}
+use Rattle.sets.specs.declared.refusal.Refusal.{Refusal}
 use Rattle.sets.specs.declared.answers.Part.{Part}
 use Rattle.sets.proofs.OutcomeLaws.{given-accepted, given-number}
 use Rattle.sets.proofs.QuestionLaws.{first-yes}
@@ -41,11 +45,15 @@ module _ (ws : List ℕ) where
   unfolding read
   few = omega (arith, length-positions 65536 s.has, count-le 65536 s.has)
 
-  pub size_is : {r : Counted} → questions all_offsets ws ≡ 0 → r ≡ walk_count_rule all_offsets ws all_offsets ws Ones → r.count ≡ length (ones_list s)
-  size_is ok e = ap (λ (r : Counted). r.count) (e ∙ count-accepted all_offsets ws all_offsets ws both Ones)
+  pub size_is : (r : Result ℕ Refusal) → questions all_offsets ws ≡ 0 → counted_of r ≡ walk_count_rule all_offsets ws all_offsets ws Ones → result_unwrap_or r 0 ≡ length (ones_list s)
+  size_is r ok e = as_count r ∙ ap (λ (r : Counted). r.count) (e ∙ count-accepted all_offsets ws all_offsets ws both Ones)
     where
       both : both_questions all_offsets ws all_offsets ws ≡ 0
       both = unfold both_questions in sym (first-yes ok (sym ok))
+
+      as_count : (r : Result ℕ Refusal) → result_unwrap_or r 0 ≡ (counted_of r).count
+      as_count (Ok n) = refl
+      as_count (Err e) = refl
 
   -- ---- the next ones
 

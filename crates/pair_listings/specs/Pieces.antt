@@ -1,5 +1,5 @@
 -- What the next piece has to be.
-use Rattle.std.specs.Prelude.{◌≡◌, true, false, cond, List, [], ◌∷◌, ◌++◌, ◌⊎◌, ℕ, ◌+◌, ◌-◌, ◌^◌, ◌≤◌, ◌<◌, ltb, length, take}
+use Rattle.std.specs.Prelude.{◌≡◌, Bool, true, false, cond, Option, None, Some, List, [], ◌∷◌, ◌++◌, ◌⊎◌, ℕ, ◌+◌, ◌-◌, ◌^◌, ◌≤◌, ◌<◌, ltb, length, take}
 use Rattle.sets.specs.Members.{Members}
 use Rattle.sets.specs.Questions.{part_question}
 use Rattle.sets.specs.declared.answers.Part.{Part}
@@ -7,7 +7,7 @@ use Rattle.pair_listings.specs.Tables.{all_offsets}
 use Rattle.pair_listings.specs.Pages.{members_left, rest_text}
 use Rattle.pair_listings.specs.declared.jobs.Job.{Job}
 use Rattle.pair_listings.specs.declared.jobs.Page.{Page}
-use Rattle.pair_listings.specs.declared.jobs.Piece.{Piece}
+use Rattle.pair_listings.specs.declared.jobs.Written.{Written}
 use Rattle.pair_listings.specs.declared.jobs.Stage.{Stage}
 use Rattle.pair_listings.specs.declared.jobs.Stage.TheVariants.{Lines, Last, Over}
 
@@ -16,6 +16,17 @@ abbrev pub stage_number : Stage → ℕ
 stage_number Lines = 0
 stage_number Last = 1
 stage_number Over = 2
+
+-- how many bytes of the buffer are the next piece, what is left then, and whether it could be written
+pub record Piece : Type 0 where
+  pub length : ℕ
+  pub page : Page
+  pub whole : Bool
+
+-- what a call gives, as such a record: nothing is none
+abbrev pub piece_of : Page → Option Written → Piece
+piece_of page None = record { length = 0; page = page; whole = false }
+piece_of page (Some w) = record { length = w.length; page = w.page; whole = true }
 
 pub record PieceRight (job : Job) (table : ℕ → ℕ) (s : Members) (page : Page) (out : List ℕ) (r : Piece) : Type 0 where
   pub fits : r.length ≤ length out
@@ -28,10 +39,6 @@ pub record PieceRight (job : Job) (table : ℕ → ℕ) (s : Members) (page : Pa
 -- the page after so many lines: fewer than 128 are the last ones
 unfoldable pub page_after : Part → ℕ → ℕ → Page
 page_after part place count = record { stage = cond (ltb count 128) Last Lines; part = part; place = place }
-
--- a piece that could not be written
-abbrev pub no_piece : Page → Piece
-no_piece page = record { length = 0; page = page; whole = false }
 
 -- the bytes and the stages that are left: each piece leaves fewer
 abbrev pub work_left : Job → (ℕ → ℕ) → Members → Page → ℕ

@@ -4,10 +4,11 @@
 mod jobs;
 mod lines;
 mod moves;
+mod offsets;
 mod pages;
 mod unpaired;
 
-pub use jobs::{Job, Page, Piece, Stage};
+pub use jobs::{Job, Page, Stage, Written};
 pub use lines::append_unpaired;
 pub use moves::{move_members, named_set};
 pub use pages::{first_page, next_piece};

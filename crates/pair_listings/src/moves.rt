@@ -1,12 +1,13 @@
 ghost use Rattle.std.specs.Prelude.{◌≡◌, List, ℕ, ◌+◌, ◌≤◌, ◌<◌, length};
-ghost use Rattle.sets.specs.Members.{words_of, write, empty};
+ghost use Rattle.sets.specs.Members.{words_of, write, set_of, empty};
 ghost use Rattle.sets.specs.Outcomes.{outcome};
+ghost use Rattle.sets.specs.Refusals.{edited_of};
 ghost use Rattle.pair_listings.specs.Tables.{offsets_of, entry_of, moved_below, moved_by, move_members_rule, named_below, named_by, named_set_rule};
 
 use blocks::block;
 use edits::insert;
 use fresh_sets::with_capacity;
-use sets::{Edited, FixedBitSet, check, member};
+use sets::{FixedBitSet, Refusal, member};
 
 // One offset of the old set: its partner becomes a member, where it is a member and has one.
 fn move_member(words: &[u64], to: &[u64], p: usize, out: &mut [u64])
@@ -18,7 +19,7 @@ fn move_member(words: &[u64], to: &[u64], p: usize, out: &mut [u64])
     if member(set, words, p) {
         let entry = block(to, p);
         if entry != 0 {
-            insert(set, out, (entry % 65536) as usize);
+            let _ = insert(set, out, (entry % 65536) as usize);
         }
     }
 }
@@ -27,31 +28,19 @@ fn move_each(words: &[u64], to: &[u64], out: &mut [u64])
     ensures { (vs : List ℕ) → words_of 65536 ≤ length vs → out.old ≡ write vs (empty 65536)
         → out.new ≡ write vs (moved_by (entry_of to.now) (offsets_of words.now)) }
 {
-    let mut p = 0;
-    while p < 65536 {
+    for p in 0..65536 {
         move_member(words, to, p, out);
-        p += 1;
     }
 }
 
 // The set of 65,536 bits with exactly the partner of each member that has one. Asks 1 to 3 of the old set, then 7 of the buffer.
-pub fn move_members(words: &[u64], to: &[u64], out: &mut [u64]) -> Edited
-    ensures { outcome result out.new ≡ move_members_rule words.now (entry_of to.now) out.old }
+pub fn move_members(words: &[u64], to: &[u64], out: &mut [u64]) -> Result<FixedBitSet, Refusal>
+    ensures { outcome (edited_of (set_of (empty 0)) result) out.new ≡ move_members_rule words.now (entry_of to.now) out.old }
 {
-    let number = check(FixedBitSet::new(65536), words);
-    if number != 0 {
-        return Edited {
-            number,
-            set: FixedBitSet::new(0),
-        };
-    }
-    let made = with_capacity(65536, out);
-    let number = made.number;
-    if number != 0 {
-        return made;
-    }
+    FixedBitSet::new(65536).check(words)?;
+    let made = with_capacity(65536, out)?;
     move_each(words, to, out);
-    made
+    Ok(made)
 }
 
 // One offset: it becomes a member where a pair names it.
@@ -61,7 +50,7 @@ fn mark_named(table: &[u64], p: usize, out: &mut [u64])
         → out.new ≡ write vs (named_below (p + 1) (entry_of table.now)) }
 {
     if block(table, p) != 0 {
-        insert(FixedBitSet::new(65536), out, p);
+        let _ = insert(FixedBitSet::new(65536), out, p);
     }
 }
 
@@ -69,22 +58,16 @@ fn mark_each(table: &[u64], out: &mut [u64])
     ensures { (vs : List ℕ) → words_of 65536 ≤ length vs → out.old ≡ write vs (empty 65536)
         → out.new ≡ write vs (named_by (entry_of table.now)) }
 {
-    let mut p = 0;
-    while p < 65536 {
+    for p in 0..65536 {
         mark_named(table, p, out);
-        p += 1;
     }
 }
 
 // The set of 65,536 bits with exactly the offsets that a pair names. Asks 7 of the buffer.
-pub fn named_set(table: &[u64], out: &mut [u64]) -> Edited
-    ensures { outcome result out.new ≡ named_set_rule (entry_of table.now) out.old }
+pub fn named_set(table: &[u64], out: &mut [u64]) -> Result<FixedBitSet, Refusal>
+    ensures { outcome (edited_of (set_of (empty 0)) result) out.new ≡ named_set_rule (entry_of table.now) out.old }
 {
-    let made = with_capacity(65536, out);
-    let number = made.number;
-    if number != 0 {
-        return made;
-    }
+    let made = with_capacity(65536, out)?;
     mark_each(table, out);
-    made
+    Ok(made)
 }

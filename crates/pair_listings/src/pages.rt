@@ -1,53 +1,37 @@
-ghost use Rattle.std.specs.Prelude.{◌≡◌, length};
+ghost use Rattle.std.specs.Prelude.{◌≡◌, ◌+◌, ◌^◌, ◌<◌, length};
+ghost use Rattle.byte_texts.specs.Growth.{Appended};
 ghost use Rattle.byte_texts.specs.Texts.{written};
 ghost use Rattle.sets.specs.Questions.{questions};
-ghost use Rattle.two_set_counts.specs.Lists.{ones_list};
 ghost use Rattle.pair_listings.specs.Tables.{all_offsets, offsets_of, entry_of};
+ghost use Rattle.pair_listings.specs.Lines.{pair_lines_text};
 ghost use Rattle.pair_listings.specs.Pages.{last_text, first_page};
-ghost use Rattle.pair_listings.specs.Pieces.{page_after, no_piece, PieceRight, Able, PieceSure};
+ghost use Rattle.pair_listings.specs.Pieces.{page_after, piece_of, PieceRight, Able, PieceSure};
 
-use crate::jobs::{Job, Page, Piece, Stage};
+use crate::jobs::{Job, Page, Stage, Written};
 use crate::lines::{append_pair_lines, append_pairs_complete};
+use crate::offsets::Offsets;
+use byte_texts::Text;
+use listing_lines::Places;
 use next_many::ones_next_many;
-use sets::{FixedBitSet, Part, check};
+use sets::{FixedBitSet, Part};
 use verdict_lines::append_count;
 use walks::first_part;
-use whole_walks::{Walk, walk_count};
 
 // The page before any line.
+#[tactic(auto, unfolding(crate::specs::Pages::first_page))]
 pub fn first_page(job: Job) -> Page
     ensures { result ≡ first_page job }
 {
-    let part = first_part(FixedBitSet::new(65536));
     let stage = if job.count { Stage::Last } else { Stage::Lines };
     Page {
         stage,
-        part,
+        part: first_part(FixedBitSet { length: 65536 }),
         place: 1,
     }
 }
 
-// How many pairs there are in all.
-fn total_of(words: &[u64]) -> usize
-    requires { questions all_offsets words.now ≡ 0 }
-    ensures { result ≡ length (ones_list (offsets_of words.now)) }
-{
-    let set = FixedBitSet::new(65536);
-    walk_count(set, words, set, words, Walk::Ones).count
-}
-
-// A piece that could not be written.
-fn no_piece(page: Page) -> Piece
-    ensures { result ≡ no_piece page }
-{
-    Piece {
-        length: 0,
-        page,
-        whole: false,
-    }
-}
-
 // The page after `count` lines: fewer than 128 are the last ones.
+#[tactic(auto, unfolding(crate::specs::Pieces::page_after))]
 fn page_after(part: Part, place: usize, count: usize) -> Page
     ensures { result ≡ page_after part place count }
 {
@@ -59,87 +43,109 @@ fn page_after(part: Part, place: usize, count: usize) -> Page
     Page { stage, part, place }
 }
 
-// The next 128 lines, or those that are left.
-fn next_lines(job: Job, words: &[u64], table: &[u64], page: Page, out: &mut [u8]) -> Piece
-    requires { (questions all_offsets words.now ≡ 0) × (page.stage ≡ Stage.Lines) }
-    ensures { PieceRight job (entry_of table.now) (offsets_of words.now) page out.new result × (Able (offsets_of words.now) page out.new → PieceSure (offsets_of words.now) result) }
+// The lines of some offsets at the start of the buffer. Gives where they end.
+fn put_lines(out: &mut [u8], offsets: &[u64], table: &[u64], places: Places, place: usize) -> usize
+    ensures { place + length offsets.now < 2 ^ 64 → record { end = result; out = out.new } ≡ written out.old 0 (pair_lines_text places.sheet places.total place (entry_of table.now) offsets.now) }
 {
-    let total = total_of(words);
-    let size = out.len();
-    let part = page.part;
-    let place = page.place;
+    let mut text = Text::new(out);
+    append_pair_lines(&mut text, offsets, table, places, place);
+    text.end
+}
+
+// The next 128 lines, or those that are left.
+fn next_lines(
+    job: Job,
+    set: Offsets<'_>,
+    table: &[u64],
+    page: Page,
+    out: &mut [u8],
+) -> Option<Written>
+    requires { page.stage ≡ Stage.Lines }
+    ensures { PieceRight job (entry_of table.now) (offsets_of set.entry.words.now) page out.new (piece_of page result) × (Able (offsets_of set.entry.words.now) page out.new → PieceSure (offsets_of set.entry.words.now) (piece_of page result)) }
+{
+    let places = Places {
+        sheet: job.sheet,
+        total: set.size(),
+    };
     let mut offsets = [0u64; 128];
-    let many = ones_next_many(FixedBitSet::new(65536), words, part, &mut offsets);
-    let number = many.number;
-    if number != 0 {
-        return no_piece(page);
+    let all = FixedBitSet { length: 65536 };
+    let Ok(many) = ones_next_many(all, set.words, page.part, &mut offsets) else {
+        return None;
+    };
+    if 4294967296 < page.place {
+        return None;
     }
-    if 4294967296 < place {
-        return no_piece(page);
+    let end = put_lines(out, &offsets[..many.count], table, places, page.place);
+    if out.len() <= end {
+        return None;
     }
-    let count = many.count;
-    let end = append_pair_lines(out, 0, &offsets[..count], table, job.sheet, total, place);
-    if size <= end {
-        return no_piece(page);
-    }
-    let rest = many.part;
-    let next = page_after(rest, place + count, count);
-    Piece {
+    Some(Written {
         length: end,
-        page: next,
-        whole: true,
-    }
+        page: page_after(many.part, page.place + many.count, many.count),
+    })
 }
 
 // The last line: the count alone, or that the list is complete.
-fn append_last(out: &mut [u8], job: Job, words: &[u64]) -> usize
-    requires { questions all_offsets words.now ≡ 0 }
-    ensures { record { end = result; out = out.new } ≡ written out.old 0 (last_text job (offsets_of words.now)) }
+fn append_last(text: &mut Text, job: Job, set: Offsets<'_>)
+    ensures { Appended text.old text.new (last_text job (offsets_of set.entry.words.now)) }
 {
-    let total = total_of(words) as u64;
+    let total = set.size() as u64;
     if job.count {
-        return append_count(out, 0, total);
+        append_count(text, total);
+    } else {
+        append_pairs_complete(text, total);
     }
-    append_pairs_complete(out, 0, total)
 }
 
-fn last_line(job: Job, words: &[u64], table: &[u64], page: Page, out: &mut [u8]) -> Piece
-    requires { (questions all_offsets words.now ≡ 0) × (page.stage ≡ Stage.Last) }
-    ensures { PieceRight job (entry_of table.now) (offsets_of words.now) page out.new result × (Able (offsets_of words.now) page out.new → PieceSure (offsets_of words.now) result) }
+// The same at the start of the buffer. Gives where it ends.
+fn put_last(out: &mut [u8], job: Job, set: Offsets<'_>) -> usize
+    ensures { record { end = result; out = out.new } ≡ written out.old 0 (last_text job (offsets_of set.entry.words.now)) }
 {
-    let size = out.len();
-    let end = append_last(out, job, words);
-    if size <= end {
-        return no_piece(page);
+    let mut text = Text::new(out);
+    append_last(&mut text, job, set);
+    text.end
+}
+
+fn last_line(
+    job: Job,
+    set: Offsets<'_>,
+    table: &[u64],
+    page: Page,
+    out: &mut [u8],
+) -> Option<Written>
+    requires { page.stage ≡ Stage.Last }
+    ensures { PieceRight job (entry_of table.now) (offsets_of set.entry.words.now) page out.new (piece_of page result) × (Able (offsets_of set.entry.words.now) page out.new → PieceSure (offsets_of set.entry.words.now) (piece_of page result)) }
+{
+    let end = put_last(out, job, set);
+    if out.len() <= end {
+        return None;
     }
-    let part = page.part;
-    Piece {
+    Some(Written {
         length: end,
         page: Page {
             stage: Stage::Over,
-            part,
+            part: page.part,
             place: page.place,
         },
-        whole: true,
-    }
+    })
 }
 
-// The next piece of the pairs of a set's members, from the set and a table.
-pub fn next_piece(job: Job, words: &[u64], table: &[u64], page: Page, out: &mut [u8]) -> Piece
-    ensures { PieceRight job (entry_of table.now) (offsets_of words.now) page out.new result × (questions all_offsets words.now ≡ 0 → Able (offsets_of words.now) page out.new → PieceSure (offsets_of words.now) result) }
+// The next piece of the pairs of a set's members, from the set and a table; none where it could not be written.
+pub fn next_piece(
+    job: Job,
+    words: &[u64],
+    table: &[u64],
+    page: Page,
+    out: &mut [u8],
+) -> Option<Written>
+    ensures { PieceRight job (entry_of table.now) (offsets_of words.now) page out.new (piece_of page result) × (questions all_offsets words.now ≡ 0 → Able (offsets_of words.now) page out.new → PieceSure (offsets_of words.now) (piece_of page result)) }
 {
-    let number = check(FixedBitSet::new(65536), words);
-    if number != 0 {
-        return no_piece(page);
-    }
-    let stage = page.stage;
-    match stage {
-        Stage::Lines => next_lines(job, words, table, page, out),
-        Stage::Last => last_line(job, words, table, page, out),
-        Stage::Over => Piece {
-            length: 0,
-            page,
-            whole: true,
-        },
+    let Ok(set) = Offsets::new(words) else {
+        return None;
+    };
+    match page.stage {
+        Stage::Lines => next_lines(job, set, table, page, out),
+        Stage::Last => last_line(job, set, table, page, out),
+        Stage::Over => Some(Written { length: 0, page }),
     }
 }

@@ -1,11 +1,8 @@
-use Prim.Native.Nat.{◌-◌}
-use lib.ListN.{length}
+use lib.ListN.{take}
+use Rattle.byte_texts.specs.Growth.{Appended}
 use Rattle.pair_listings.specs.Tables.{entry_of}
-use Rattle.pair_listings.proofs.LineLaws.{Lining}
+use Rattle.pair_listings.specs.Lines.{pair_lines_text}
 use Rattle.pair_listings.proofs.lines.append_pair_lines.Given as goal
 
 abbrev pub invariant-loop-k : goal.invariant-loop-k
-invariant-loop-k l = Lining l.sheet l.total (entry_of l.table) l.offsets l.place l.initial.out l.initial.end l.out l.end l.k
-
-abbrev pub decreases-loop-k : goal.decreases-loop-k
-decreases-loop-k l = length l.offsets - l.k
+invariant-loop-k l = Appended l.fn.out l.out (pair_lines_text l.places.sheet l.places.total l.place (entry_of l.table) (take l.k l.offsets))

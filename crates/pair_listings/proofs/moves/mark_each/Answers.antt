@@ -1,4 +1,4 @@
-use mathlib.Core.Path.{◌≡◌, refl, ap, ◌∙◌}
+use mathlib.Core.Path.{◌≡◌, ap, ◌∙◌}
 use native.Mathlib.Omega.{arith}
 use Prim.Native.Nat.{ℕ}
 use Rattle.sets.specs.Members.{write}
@@ -7,23 +7,13 @@ use Rattle.pair_listings.proofs.NamedLaws.{named_start}
 use Rattle.pair_listings.proofs.moves.mark_each.Goals as goal
 
 pub loop-p-init : goal.loop-p-init
-loop-p-init c = record { same = refl; inside = omega arith; done = λ vs room e. named_start _ vs e }
+loop-p-init c = λ vs room e. named_start _ vs e
 
 pub loop-p-preserved : goal.loop-p-preserved
-loop-p-preserved c =
-    let test = c.loop-p-test.true in
-    let l = c.loop-p in
-    record {
-      same = c.mark_named.auto.out ∙ l.invariant.same;
-      inside = omega (arith, test);
-      done = λ vs room e. c.mark_named.ensures vs room test (l.invariant.done vs room e);
-    }
-
-pub shape_of-out : goal.shape_of-out
-shape_of-out c = c.loop-p.invariant.same
+loop-p-preserved c = λ vs room e. c.mark_named.ensures vs room c.loop-p-test.true (c.loop-p.invariant vs room e)
 
 pub returns : goal.returns
 returns c = λ vs room e.
     let l = c.loop-p in
-    let last : l.p ≡ 65536 = omega (arith, l.invariant.inside, c.loop-p-test.false) in
-    l.invariant.done vs room e ∙ ap (λ (k : ℕ). write vs (named_below k (entry_of c.args.table.now))) last
+    let last : l.p ≡ 65536 = omega (arith, l.auto.p-end, c.loop-p-test.false) in
+    l.invariant vs room e ∙ ap (λ (k : ℕ). write vs (named_below k (entry_of c.args.table.now))) last

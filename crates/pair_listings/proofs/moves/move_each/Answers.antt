@@ -1,4 +1,4 @@
-use mathlib.Core.Path.{◌≡◌, refl, ap, ◌∙◌}
+use mathlib.Core.Path.{◌≡◌, ap, ◌∙◌}
 use native.Mathlib.Omega.{arith}
 use Prim.Native.Nat.{ℕ}
 use Rattle.sets.specs.Members.{read, write}
@@ -7,24 +7,15 @@ use Rattle.pair_listings.proofs.MoveLaws.{moved_start}
 use Rattle.pair_listings.proofs.moves.move_each.Goals as goal
 
 pub loop-p-init : goal.loop-p-init
-loop-p-init c = record { same = refl; inside = omega arith; done = λ vs room e. moved_start _ _ vs e }
+loop-p-init c = λ vs room e. moved_start _ _ vs e
 
 pub loop-p-preserved : goal.loop-p-preserved
-loop-p-preserved c =
-    let l = c.loop-p in
-    record {
-      same = c.move_member.auto.out ∙ l.invariant.same;
-      inside = omega (arith, c.loop-p-test.true);
-      done = λ vs room e. c.move_member.ensures vs room (l.invariant.done vs room e);
-    }
-
-pub shape_of-out : goal.shape_of-out
-shape_of-out c = c.loop-p.invariant.same
+loop-p-preserved c = λ vs room e. c.move_member.ensures vs room (c.loop-p.invariant vs room e)
 
 pub returns : goal.returns
 unfolding read
 returns c = λ vs room e.
     let l = c.loop-p in
-    let last : l.p ≡ 65536 = omega (arith, l.invariant.inside, c.loop-p-test.false) in
+    let last : l.p ≡ 65536 = omega (arith, l.auto.p-end, c.loop-p-test.false) in
     let a = c.args in
-    l.invariant.done vs room e ∙ ap (λ (k : ℕ). write vs (moved_below k (entry_of a.to.now) (offsets_of a.words.now))) last
+    l.invariant vs room e ∙ ap (λ (k : ℕ). write vs (moved_below k (entry_of a.to.now) (offsets_of a.words.now))) last

@@ -1,6 +1,5 @@
-use mathlib.Core.Path.{ap, ◌∙◌}
-use Prim.Native.Nat.{ℕ}
-use Rattle.byte_texts.specs.Texts.{written}
+use mathlib.Core.Path.{ap}
+use Rattle.byte_texts.proofs.GrowthLaws.{appended_as}
 use Rattle.listing_lines.specs.Lines.{count_text}
 use Rattle.pair_listings.specs.Lines.{pairs_complete_text}
 use Rattle.pair_listings.specs.Pages.{last_text}
@@ -8,12 +7,8 @@ use Rattle.pair_listings.proofs.pages.append_last.Goals as goal
 
 pub returns-then-job : goal.returns-then-job
 unfolding last_text
-returns-then-job c =
-    let a = c.args in
-    rw c.if-job.true (c.append_count.ensures ∙ ap (λ (n : ℕ). written a.out.now 0 (count_text n)) c.total_of-total.ensures)
+returns-then-job c = rw c.if-job.true (appended_as c.append_count.ensures (ap count_text c.size-total.ensures))
 
-pub returns : goal.returns
+pub returns-else-job : goal.returns-else-job
 unfolding last_text
-returns c =
-    let a = c.args in
-    rw c.if-job.false (c.append_pairs_complete.ensures ∙ ap (λ (n : ℕ). written a.out.now 0 (pairs_complete_text n)) c.total_of-total.ensures)
+returns-else-job c = rw c.if-job.false (appended_as c.append_pairs_complete.ensures (ap pairs_complete_text c.size-total.ensures))
