@@ -101,7 +101,11 @@ pub extern "C" fn fbs_symmetric_difference_next(
 ) -> FbsSteppedPair
     ensures { result ≡ export_stepped_pair (symmetric_difference_next_rule a words.now b other.now one two) }
 {
-    FbsSteppedPair::new(one, two, symmetric_difference_next(a, words, b, other, one, two))
+    FbsSteppedPair::new(
+        one,
+        two,
+        symmetric_difference_next(a, words, b, other, one, two),
+    )
 }
 
 #[unsafe(no_mangle)]
@@ -115,5 +119,9 @@ pub extern "C" fn fbs_symmetric_difference_next_back(
 ) -> FbsSteppedPair
     ensures { result ≡ export_stepped_pair (symmetric_difference_next_back_rule a words.now b other.now one two) }
 {
-    FbsSteppedPair::new(one, two, symmetric_difference_next_back(a, words, b, other, one, two))
+    FbsSteppedPair::new(
+        one,
+        two,
+        symmetric_difference_next_back(a, words, b, other, one, two),
+    )
 }
