@@ -8,16 +8,19 @@ mod report;
 mod rust_examples;
 mod walk_list;
 
-use report::{Tally, total};
+use report::Report;
+use std::io;
+use std::io::Print;
 
-fn main() {
-    let tally = Tally {
-        cases: 0,
-        different: 0,
-    };
-    let tally = checked_list::run(tally);
-    let tally = walk_list::run(tally);
-    let tally = position_lists::run(tally);
-    let tally = rust_examples::run(tally);
-    total(tally);
+fn run<R: Print>(rt: &R) -> io::Result<()> {
+    let mut report = Report::new(rt);
+    checked_list::run(&mut report)?;
+    walk_list::run(&mut report)?;
+    position_lists::run(&mut report)?;
+    rust_examples::run(&mut report)?;
+    report.total()
+}
+
+fn main(rt: HostRuntime) {
+    let _written = run(&rt);
 }

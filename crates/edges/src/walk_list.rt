@@ -1,10 +1,12 @@
-use crate::report::{Tally, numbers, position_word, walked};
+use crate::report::Report;
 use sets::FixedBitSet;
+use std::io;
+use std::io::Print;
 use walks::{first_part, zeroes_next};
 use whole_walks::{Walk, walk_whole};
 
 // A = {1, 70}, L = 71; B = {0, 1}, L = 2.
-fn two_sets(tally: Tally) -> Tally {
+fn two_sets<R: Print>(report: &mut Report<'_, R>) -> io::Result<()> {
     let a = FixedBitSet::new(71);
     let b = FixedBitSet::new(2);
     let words: [u64; 2] = [2, 64];
@@ -19,14 +21,13 @@ fn two_sets(tally: Tally) -> Tally {
         &[0, 0, 0, 0],
         &mut answers,
     );
-    let tally = walked(
-        tally,
-        b"P  A = {1, 70}, B = {0, 1}: union, four front steps",
+    report.walked(
+        "P  A = {1, 70}, B = {0, 1}: union, four front steps",
         answer,
         &answers,
         3,
         &[1, 70, 0, u64::MAX],
-    );
+    )?;
     let mut answers: [u64; 3] = [0; 3];
     let answer = walk_whole(
         a,
@@ -37,9 +38,8 @@ fn two_sets(tally: Tally) -> Tally {
         &[0, 0, 0],
         &mut answers,
     );
-    walked(
-        tally,
-        b"P  A = {1, 70}, B = {0, 1}: symmetric_difference, three front steps",
+    report.walked(
+        "P  A = {1, 70}, B = {0, 1}: symmetric_difference, three front steps",
         answer,
         &answers,
         2,
@@ -47,7 +47,7 @@ fn two_sets(tally: Tally) -> Tally {
     )
 }
 
-fn both_ends(tally: Tally) -> Tally {
+fn both_ends<R: Print>(report: &mut Report<'_, R>) -> io::Result<()> {
     let set = FixedBitSet::new(65);
     let words: [u64; 2] = [0x8000000000000001, 1];
     let mut answers: [u64; 5] = [0; 5];
@@ -60,9 +60,8 @@ fn both_ends(tally: Tally) -> Tally {
         &[0, 1, 0, 0, 1],
         &mut answers,
     );
-    walked(
-        tally,
-        b"P  L = 65, {0, 63, 64}: ones, front, back, front, front, back",
+    report.walked(
+        "P  L = 65, {0, 63, 64}: ones, front, back, front, front, back",
         answer,
         &answers,
         3,
@@ -70,29 +69,30 @@ fn both_ends(tally: Tally) -> Tally {
     )
 }
 
-fn zeroes(tally: Tally) -> Tally {
+fn zeroes<R: Print>(report: &mut Report<'_, R>) -> io::Result<()> {
     let set = FixedBitSet::new(3);
     let words: [u64; 1] = [2];
-    let one = zeroes_next(set, &words, first_part(set));
-    let two = zeroes_next(set, &words, one.part);
-    let three = zeroes_next(set, &words, two.part);
-    let first = one.at;
-    let second = two.at;
-    let third = three.at;
-    numbers(
-        tally,
-        b"   L = 3, {1}: zeroes, three front steps",
-        &[
-            position_word(first),
-            position_word(second),
-            position_word(third),
-        ],
+    let mut part = first_part(set);
+    let mut answers = [0; 3];
+    for answer in &mut answers {
+        let Ok(step) = zeroes_next(set, &words, part) else {
+            break;
+        };
+        part = step.part;
+        *answer = match step.at {
+            Some(position) => position as u64,
+            None => u64::MAX,
+        };
+    }
+    report.numbers(
+        "   L = 3, {1}: zeroes, three front steps",
+        &answers,
         &[0, 2, u64::MAX],
     )
 }
 
-pub fn run(tally: Tally) -> Tally {
-    let tally = two_sets(tally);
-    let tally = both_ends(tally);
-    zeroes(tally)
+pub fn run<R: Print>(report: &mut Report<'_, R>) -> io::Result<()> {
+    two_sets(report)?;
+    both_ends(report)?;
+    zeroes(report)
 }
