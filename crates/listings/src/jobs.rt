@@ -29,10 +29,9 @@ pub struct Page {
     pub place: usize,
 }
 
-// How many bytes of the buffer are the next piece, what is left then, and whether it could be written.
+// How many bytes of the buffer are the next piece, and what is left then.
 #[derive(Clone, Copy)]
-pub struct Piece {
+pub struct Written {
     pub length: usize,
     pub page: Page,
-    pub whole: bool,
 }

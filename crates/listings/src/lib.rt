@@ -5,5 +5,5 @@ mod fills;
 mod jobs;
 mod walk_steps;
 
-pub use fills::{Filled, fill_walk};
-pub use jobs::{Job, Page, Piece, Stage};
+pub use fills::{Lines, fill_walk};
+pub use jobs::{Job, Page, Stage, Written};

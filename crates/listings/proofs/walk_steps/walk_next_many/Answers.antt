@@ -3,15 +3,15 @@ use Rattle.listings.proofs.walk_steps.walk_next_many.Goals as goal
 
 pub returns-in-Ones : goal.returns-in-Ones
 returns-in-Ones c =
-    rw c.in-Ones.is ((λ z. alone_given _ _ _ _ _ c.ones_next_many.ensures c.alone.ensures z), (λ h. alone_accepted _ _ _ _ _ c.ones_next_many.ensures c.alone.ensures (ones_asked h)))
+    rw c.in-Ones.is ((λ z. alone_given _ _ _ _ _ c.ones_next_many.ensures (c.alone.ensures _) z), (λ h. alone_accepted _ _ _ _ _ c.ones_next_many.ensures (c.alone.ensures _) (ones_asked h)))
 
 pub returns-in-Intersection : goal.returns-in-Intersection
 returns-in-Intersection c =
-    rw c.in-Intersection.is ((λ z. alone_given _ _ _ _ _ c.intersection_next_many.ensures c.alone-in-Intersection.ensures z), (λ h. alone_accepted _ _ _ _ _ c.intersection_next_many.ensures c.alone-in-Intersection.ensures (two-asked h)))
+    rw c.in-Intersection.is ((λ z. alone_given _ _ _ _ _ c.intersection_next_many.ensures (c.alone-in-Intersection.ensures _) z), (λ h. alone_accepted _ _ _ _ _ c.intersection_next_many.ensures (c.alone-in-Intersection.ensures _) (two-asked h)))
 
 pub returns-in-Difference : goal.returns-in-Difference
 returns-in-Difference c =
-    rw c.in-Difference.is ((λ z. alone_given _ _ _ _ _ c.difference_next_many.ensures c.alone-in-Difference.ensures z), (λ h. alone_accepted _ _ _ _ _ c.difference_next_many.ensures c.alone-in-Difference.ensures (two-asked h)))
+    rw c.in-Difference.is ((λ z. alone_given _ _ _ _ _ c.difference_next_many.ensures (c.alone-in-Difference.ensures _) z), (λ h. alone_accepted _ _ _ _ _ c.difference_next_many.ensures (c.alone-in-Difference.ensures _) (two-asked h)))
 
 pub returns-in-Union : goal.returns-in-Union
 returns-in-Union c =
