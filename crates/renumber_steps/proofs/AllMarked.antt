@@ -3,24 +3,20 @@ use mathlib.Core.Path.{◌≡◌, refl, sym, ap, ap₂, ◌∙◌}
 use mathlib.Core.Bool.{Bool, true, false, cond, ◌&&◌, ◌||◌, true≢false}
 use mathlib.Core.List.{List, [], ◌∷◌}
 use mathlib.Core.Logic.{◌⊎◌, inl, inr}
-use Prim.Native.Nat.{ℕ, suc, ◌+◌, ◌*◌, ◌/◌, ◌≤◌, ◌<◌}
+use Prim.Native.Nat.{ℕ, suc, ◌+◌, ◌/◌, ◌≤◌, ◌<◌}
 use native.Mathlib.Nat.{add-suc, suc-add}
 use native.Mathlib.Omega.{arith}
-use borrow.Author.Tests.{le-leb, lt-leb, lt-ltb, eq-eqb, ne_eqb, eqb-true}
+use borrow.Author.Tests.{le-leb, lt-leb, eq-eqb, ne_eqb, eqb-true}
 use lib.Dec.{eqb, leb}
 use lib.ListN.{length, length-set}
 use Rattle.word_bits.specs.Counts.{count}
 use Rattle.word_bits.proofs.Ones.{count_ext}
 use Rattle.word_bits.proofs.Order.{lt-or-le}
-use Rattle.masks.specs.Ranges.{covers}
 use Rattle.blocks.proofs.BlockLaws.{length-swept}
-use Rattle.sets.specs.Members.{Members, words_of, bit_of, read, empty, set_of}
-use Rattle.sets.specs.Questions.{positions_question, range_question}
-use Rattle.sets.specs.declared.answers.Counted.{Counted}
-use Rattle.sets.proofs.OutcomeLaws.{given_yes}
-use Rattle.sets.proofs.QuestionLaws.{Valid, valid_yes, first-yes, position_yes}
+use Rattle.sets.specs.Members.{Members, words_of, bit_of, empty, set_of}
+use Rattle.sets.specs.Questions.{positions_question}
+use Rattle.sets.proofs.QuestionLaws.{first-yes, position_yes}
 use Rattle.sets.proofs.WriteLaws.{bit_write}
-use Rattle.tests.specs.Rules.{count_ones_rule}
 use Rattle.edits.specs.Edits.{is_in}
 use Rattle.renumber_steps.specs.Pairs.{olds, repeats, sided}
 use Rattle.renumber_steps.specs.Passes.{Taken, taken, passed, marked, marking, aboves, cleared, all_marked, shared}
@@ -31,25 +27,6 @@ use Rattle.renumber_steps.proofs.RepeatLaws.{held, held_len, held_has, hits, mar
 use Rattle.renumber_steps.proofs.AskLaws.{run}
 
 -- ---- the code
-
--- 1,024 words are a set of 65,536 bits
-full_valid : (ms : List ℕ) → length ms ≡ 1024 → Valid (set_of (empty 65536)) ms
-unfolding words_of
-full_valid ms e = record { small = omega arith; enough = rw e (omega arith); clean = λ p l h. absurd (no p l h) }
-  where
-    no : (p : ℕ) → 65536 ≤ p → p < 1024 * 64 → ⊥
-    no p l h = omega arith
-
-pub counts_marks : (ms : List ℕ) (n : ℕ) → length ms ≡ 1024 → eqb (count_ones_rule (set_of (empty 65536)) ms 0 65536).count n ≡ all_marked ms n
-unfolding all_marked range_question read covers
-counts_marks ms n e =
-    ap (λ (c : Counted). eqb c.count n)
-    (sym (given_yes (λ m. record { number = m; count = 0 }) (first-yes (valid_yes (set_of (empty 65536)) ms (full_valid ms e)) refl) refl))
-    ∙ ap (λ (k : ℕ). eqb k n) (count_ext 65536 _ (bit_of ms) (λ p l. ap₂ (λ (a b : Bool). (a && b) && (b && bit_of ms p)) (le-leb 0 p (omega arith)) (lt-ltb p 65536 l)))
-    ∙ ap (λ (b : Bool). b && eqb (count 65536 (bit_of ms)) n) (sym (same e))
-  where
-    same : length ms ≡ 1024 → eqb (length ms) 1024 ≡ true
-    same q = rw q refl
 
 -- ---- marks that none was there for
 

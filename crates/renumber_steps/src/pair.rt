@@ -3,7 +3,7 @@ ghost use Rattle.renumber_steps.specs.Pairs.{sided_pair};
 
 // An old offset and its new one.
 #[repr(C)]
-#[derive(Clone, Copy)]
+#[derive(Clone, Copy, Debug, PartialEq, Eq)]
 pub struct Pair {
     pub old: u64,
     pub new: u64,

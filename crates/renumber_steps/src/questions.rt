@@ -1,23 +1,21 @@
 ghost use Rattle.std.specs.Prelude.{◌≡◌, length};
 ghost use Rattle.sets.specs.Members.{set_of, empty};
 ghost use Rattle.sets.specs.Questions.{first, questions, new_questions};
+ghost use Rattle.sets.specs.Refusals.{number_of};
 ghost use Rattle.comparisons.specs.Rules.{is_subset_rule};
 ghost use Rattle.renumber_steps.specs.Passes.{cleared, all_marked, pairs_number};
 
 use blocks::change_blocks;
 use comparisons::is_subset;
-use range_counts::count_ones;
-use sets::{FixedBitSet, ask_new, check};
+use range_counts::ones_of_words;
+use sets::{FixedBitSet, Refusal, check_new};
 
 // Questions 1 to 3 of the old set, then 6 and 7 of the new one.
-pub fn ask_sets(set: FixedBitSet, words: &[u64], bits: usize, out: &[u64]) -> u64
-    ensures { result ≡ first (questions set words.now) (new_questions bits (length out.now)) }
+pub fn ask_sets(set: FixedBitSet, words: &[u64], bits: usize, out: &[u64]) -> Result<(), Refusal>
+    ensures { number_of result ≡ first (questions set words.now) (new_questions bits (length out.now)) }
 {
-    let number = check(set, words);
-    if number != 0 {
-        return number;
-    }
-    ask_new(bits, out)
+    set.check(words)?;
+    check_new(bits, out)
 }
 
 // Makes every word 0. Writes lent words and asks nothing.
@@ -32,32 +30,32 @@ pub fn clear_marks(marks: &mut [u64])
 pub fn all_marked(marks: &[u64], count: usize) -> bool
     ensures { result ≡ all_marked marks.now count }
 {
-    if marks.len() != 1024 {
-        return false;
-    }
-    let counted = count_ones(FixedBitSet::new(65536), marks, 0, 65536);
-    counted.count == count
+    marks.len() == 1024 && ones_of_words(marks) == count
 }
 
 // Whether every member is marked.
 pub fn members_marked(set: FixedBitSet, words: &[u64], marks: &[u64]) -> bool
     ensures { result ≡ (is_subset_rule set words.now (set_of (empty 65536)) marks.now).yes }
 {
-    is_subset(set, words, FixedBitSet::new(65536), marks).yes
+    is_subset(set, words, FixedBitSet::new(65536), marks).unwrap_or(false)
 }
 
 // The first no of questions 10, 11, 4 and 12.
-pub fn pairs_number(old: bool, new: bool, beyond: bool, paired: bool) -> u64
-    ensures { result ≡ pairs_number old new beyond paired }
+pub fn pairs_number(old: bool, new: bool, beyond: bool, paired: bool) -> Result<(), Refusal>
+    ensures { number_of result ≡ pairs_number old new beyond paired }
 {
     if old {
-        return 10;
+        return Err(Refusal::OldTwice);
     }
     if new {
-        return 11;
+        return Err(Refusal::NewTwice);
     }
     if beyond {
-        return 4;
+        return Err(Refusal::BeyondLength);
     }
-    if paired { 0 } else { 12 }
+    if paired {
+        Ok(())
+    } else {
+        Err(Refusal::Unpaired)
+    }
 }

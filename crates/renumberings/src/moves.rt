@@ -1,13 +1,15 @@
 ghost use Rattle.std.specs.Prelude.{◌≡◌, length};
+ghost use Rattle.sets.specs.Members.{set_of, empty};
 ghost use Rattle.sets.specs.Outcomes.{outcome};
+ghost use Rattle.sets.specs.Refusals.{edited_of};
 ghost use Rattle.renumber_steps.specs.Pairs.{sided, swapped};
 ghost use Rattle.renumber_steps.specs.Rules.{renumber_rule};
 
 use crate::passes::pass;
 use crate::questions::ask_pairs;
 use fresh_sets::with_capacity;
-use renumber_steps::{Pair, Task, ask_sets, refused};
-use sets::{Edited, FixedBitSet};
+use renumber_steps::{Pair, Task, ask_sets};
+use sets::{FixedBitSet, Refusal};
 
 // Pairs are read from old to new, or back. `marks` are 1,024 words of the caller's.
 pub(crate) fn renumber_with(
@@ -18,21 +20,15 @@ pub(crate) fn renumber_with(
     bits: usize,
     out: &mut [u64],
     marks: &mut [u64],
-) -> Edited
+) -> Result<FixedBitSet, Refusal>
     ensures { length marks.old ≡ 1024
-        → outcome result out.new ≡ renumber_rule set words.now (sided back pairs.now) bits out.old }
+        → outcome (edited_of (set_of (empty 0)) result) out.new ≡ renumber_rule set words.now (sided back pairs.now) bits out.old }
 {
-    let number = ask_sets(set, words, bits, out);
-    if number != 0 {
-        return refused(number);
-    }
-    let number = ask_pairs(set, words, pairs, back, bits, marks);
-    if number != 0 {
-        return refused(number);
-    }
-    let edited = with_capacity(bits, out);
+    ask_sets(set, words, bits, out)?;
+    ask_pairs(set, words, pairs, back, bits, marks)?;
+    let renumbered = with_capacity(bits, out)?;
     pass(pairs, back, Task::Move(set), words, out);
-    edited
+    Ok(renumbered)
 }
 
 fn renumber_sided(
@@ -42,8 +38,8 @@ fn renumber_sided(
     back: bool,
     bits: usize,
     out: &mut [u64],
-) -> Edited
-    ensures { outcome result out.new ≡ renumber_rule set words.now (sided back pairs.now) bits out.old }
+) -> Result<FixedBitSet, Refusal>
+    ensures { outcome (edited_of (set_of (empty 0)) result) out.new ≡ renumber_rule set words.now (sided back pairs.now) bits out.old }
 {
     let mut marks = [0u64; 1024];
     renumber_with(set, words, pairs, back, bits, out, &mut marks)
@@ -57,8 +53,8 @@ pub fn renumber(
     pairs: &[Pair],
     bits: usize,
     out: &mut [u64],
-) -> Edited
-    ensures { outcome result out.new ≡ renumber_rule set words.now pairs.now bits out.old }
+) -> Result<FixedBitSet, Refusal>
+    ensures { outcome (edited_of (set_of (empty 0)) result) out.new ≡ renumber_rule set words.now pairs.now bits out.old }
 {
     renumber_sided(set, words, pairs, false, bits, out)
 }
@@ -70,8 +66,8 @@ pub fn renumber_back(
     pairs: &[Pair],
     bits: usize,
     out: &mut [u64],
-) -> Edited
-    ensures { outcome result out.new ≡ renumber_rule set words.now (swapped pairs.now) bits out.old }
+) -> Result<FixedBitSet, Refusal>
+    ensures { outcome (edited_of (set_of (empty 0)) result) out.new ≡ renumber_rule set words.now (swapped pairs.now) bits out.old }
 {
     renumber_sided(set, words, pairs, true, bits, out)
 }

@@ -1,13 +1,14 @@
 ghost use Rattle.std.specs.Prelude.{◌≡◌, length};
 ghost use Rattle.sets.specs.Members.{read};
 ghost use Rattle.sets.specs.Questions.{questions};
+ghost use Rattle.sets.specs.Refusals.{number_of};
 ghost use Rattle.renumber_steps.specs.Pairs.{sided};
 ghost use Rattle.renumber_steps.specs.Rules.{pairs_questions};
 ghost use Rattle.renumber_steps.specs.Passes.{Taken, shared};
 
 use crate::passes::{finds, pass, repeats_above};
 use renumber_steps::{Pair, Task, all_marked, at_least, clear_marks, members_marked, pairs_number};
-use sets::FixedBitSet;
+use sets::{FixedBitSet, Refusal};
 
 // Whether two pairs share an old offset. Where none do, the marks are the old offsets below 65,536.
 pub(crate) fn shares(pairs: &[Pair], back: bool, olds: &[u64], marks: &mut [u64]) -> bool
@@ -33,9 +34,9 @@ pub(crate) fn ask_pairs(
     back: bool,
     bits: usize,
     marks: &mut [u64],
-) -> u64
+) -> Result<(), Refusal>
     ensures { length marks.old ≡ 1024 → questions set words.now ≡ 0
-        → result ≡ pairs_questions (sided back pairs.now) bits (read words.now set) }
+        → number_of result ≡ pairs_questions (sided back pairs.now) bits (read words.now set) }
 {
     let old = shares(pairs, back, words, marks);
     let paired = members_marked(set, words, marks);

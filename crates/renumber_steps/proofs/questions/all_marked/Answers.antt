@@ -1,23 +1,23 @@
 use mathlib.Core.Path.{sym, ap, ◌∙◌}
 use mathlib.Core.Bool.{Bool, ◌&&◌}
-use borrow.Author.Tests.{ne_eqb}
+use Prim.Native.Nat.{ℕ, ◌*◌}
+use borrow.Author.Tests.{eq-eqb, ne_eqb}
 use lib.Dec.{eqb}
 use Rattle.word_bits.specs.Counts.{count}
 use Rattle.sets.specs.Members.{bit_of}
-use Rattle.sets.specs.declared.answers.Counted.{Counted}
-use Rattle.sets.specs.declared.fixed_bit_set.FixedBitSet.{FixedBitSet}
-use Rattle.tests.specs.Rules.{count_ones_rule}
 use Rattle.renumber_steps.specs.Passes.{all_marked}
-use Rattle.renumber_steps.proofs.AllMarked.{counts_marks}
 use Rattle.renumber_steps.proofs.questions.all_marked.Goals as goal
 
-pub returns-then-marks-ne1024 : goal.returns-then-marks-ne1024
+pub returns-then-marks-eq1024 : goal.returns-then-marks-eq1024
 unfolding all_marked
-returns-then-marks-ne1024 c = sym (ap (λ (b : Bool). b && eqb (count 65536 (bit_of c.args.marks.now)) c.args.count) (ne_eqb _ 1024 c.if-marks-ne1024.true))
+returns-then-marks-eq1024 c =
+    let ms = c.args.marks.now in
+    let n = c.args.count in
+    ap (λ (x : ℕ). eqb x n) (c.ones_of_words.ensures ∙ ap (λ (l : ℕ). count (l * 64) (bit_of ms)) c.if-marks-eq1024.true)
+    ∙ sym (ap (λ (b : Bool). b && eqb (count 65536 (bit_of ms)) n) (eq-eqb _ 1024 c.if-marks-eq1024.true))
 
-pub returns : goal.returns
-returns c =
-    let a = c.args in
-    ap (λ (r : Counted). eqb r.count a.count) c.count_ones-counted.ensures
-    ∙ ap (λ (u : FixedBitSet). eqb (count_ones_rule u a.marks.now 0 65536).count a.count) c.new.ensures
-    ∙ counts_marks a.marks.now a.count c.if-marks-ne1024.false
+pub returns-else-marks-eq1024 : goal.returns-else-marks-eq1024
+unfolding all_marked
+returns-else-marks-eq1024 c =
+    let no = ne_eqb _ 1024 c.if-marks-eq1024.false in
+    no ∙ sym (ap (λ (b : Bool). b && eqb (count 65536 (bit_of c.args.marks.now)) c.args.count) no)

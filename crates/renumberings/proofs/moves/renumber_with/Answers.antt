@@ -1,21 +1,25 @@
-use Rattle.renumber_steps.specs.Pairs.{sided}
-use Rattle.renumberings.proofs.NumberLaws.{valid, refused_sets, refused-pairs, accepted}
+use mathlib.Core.Path.{sym, ap, ◌∙◌}
+use Rattle.sets.specs.Outcomes.{Outcome}
+use Rattle.sets.proofs.QuestionLaws.{first_no, first-yes}
+use Rattle.sets.proofs.RefusalLaws.{number_ne0, edit_refused}
+use Rattle.renumberings.proofs.NumberLaws.{valid, made, accepted}
 use Rattle.renumberings.proofs.moves.renumber_with.Goals as goal
 
-pub returns-then-number-ne0 : goal.returns-then-number-ne0
-returns-then-number-ne0 c long =
-    refused_sets _ _ _ _ _ _ _ c.ask_sets-number.ensures c.if-number-ne0.true c.refused.ensures
+pub returns-in_err-ask_sets : goal.returns-in_err-ask_sets
+returns-in_err-ask_sets c = λ long.
+    edit_refused _ _ _ _ _ c.from_residual.ensures.1 (first_no _ c.in_err-ask_sets.ensures (number_ne0 _))
 
-pub returns-then-number-ne0-2 : goal.returns-then-number-ne0-2
-returns-then-number-ne0-2 c long =
-    let a = c.args in
-    let good = valid a.set a.words.now (sided a.back a.pairs.now) a.bits a.out.now _ c.ask_sets-number.ensures c.if-number-ne0.false in
-    refused-pairs _ _ _ _ _ _ c.ask_sets-number.ensures c.if-number-ne0.false _ _
-    (c.ask_pairs-number.ensures long good) c.if-number-ne0-2.true c.refused-then-number-ne0-2.ensures
+pub returns-in_err-ask_pairs : goal.returns-in_err-ask_pairs
+returns-in_err-ask_pairs c = λ long.
+    let e = c.in_ok-ask_sets.ensures in
+    edit_refused _ _ _ _ _ c.from_residual-in_err-ask_pairs.ensures.1
+    (first-yes (sym e) (c.in_err-ask_pairs.ensures long (valid _ _ _ _ e)))
+
+pub returns-in_err-renumbered : goal.returns-in_err-renumbered
+returns-in_err-renumbered c = λ long.
+    absurd (number_ne0 _ (ap (λ (o : Outcome). o.number) (c.in_err-renumbered.ensures ∙ made c.args.set c.args.words.now _ _ c.in_ok-ask_sets.ensures)))
 
 pub returns : goal.returns
-returns c long =
-    let a = c.args in
-    let good = valid a.set a.words.now (sided a.back a.pairs.now) a.bits a.out.now _ c.ask_sets-number.ensures c.if-number-ne0.false in
-    accepted _ _ _ _ _ _ c.ask_sets-number.ensures c.if-number-ne0.false _ _ _ _ _
-    (c.ask_pairs-number.ensures long good) c.if-number-ne0-2.false c.with_capacity-edited.ensures c.pass.ensures
+returns c = λ long.
+    let e = c.in_ok-ask_sets.ensures in
+    accepted _ _ _ _ e _ _ _ _ _ (c.in_ok-ask_pairs.ensures long (valid _ _ _ _ e)) c.in_ok-renumbered.ensures c.pass.ensures

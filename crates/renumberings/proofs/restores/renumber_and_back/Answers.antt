@@ -1,4 +1,11 @@
-use Rattle.std.proofs.Common.{◌≡◌, ℕ, List, false, sym, ap, subst, ◌∙◌}
+use Rattle.std.proofs.Common.{◌≡◌, ℕ, List, Bool, false, refl, sym, ap, subst, ◌∙◌, Result}
+use Rattle.std.specs.Result.{IsErrAnd}
+use Rattle.std.proofs.lemmas.Result.{err_from_is_err_and}
+use Rattle.sets.specs.Members.{set_of, empty}
+use Rattle.sets.specs.Refusals.{number, told_of}
+use Rattle.sets.specs.declared.refusal.Refusal.{Refusal}
+use Rattle.sets.proofs.OutcomeLaws.{given_yes}
+use Rattle.sets.proofs.RefusalLaws.{number_ne0, answer_refused}
 use Rattle.sets.specs.Outcomes.{Outcome, outcome}
 use Rattle.sets.specs.declared.fixed_bit_set.FixedBitSet.{FixedBitSet}
 use Rattle.sets.specs.declared.answers.Edited.{Edited}
@@ -22,13 +29,28 @@ module _ (set : FixedBitSet) (ws : List ℕ) (ps : List Pair) (n : ℕ) (vs us :
       (subst (λ (os : List ℕ). AndBack set ws ps n vs us r (renumber_rule set ws ps n vs).words os) (sym (ap (λ (o : Outcome). o.words) way))
       (and-back-yes set ws ps n vs us (sym (ap (λ (o : Outcome). o.number) e) ∙ z) (is ∙ ap (came_back set ws) way)))
 
-pub returns-then-number-ne0 : goal.returns-then-number-ne0
-returns-then-number-ne0 c =
+-- a refusal that is handed on
+told_no : (r : Result Bool Refusal) (e : Refusal) → IsErrAnd r (λ d. d ≡ e) → told_of r ≡ record { number = number e; yes = false }
+told_no r e passed =
+    let p = err_from_is_err_and r passed in
+    ap told_of p.1 ∙ ap (λ (d : Refusal). record { number = number d; yes = false }) p.2
+
+pub returns-in_err-moved : goal.returns-in_err-moved
+returns-in_err-moved c =
     let a = c.args in
-    said_no a.set a.words.now a.pairs.now a.bits a.out.now a.again.now c.renumber-moved.result _ _ c.renumber-moved.ensures c.if-number-ne0.true c.refuses.ensures
+    said_no a.set a.words.now a.pairs.now a.bits a.out.now a.again.now (record { number = number c.in_err-moved.field-0.0; set = set_of (empty 0) }) _ _ c.in_err-moved.ensures
+    (number_ne0 c.in_err-moved.field-0.0) (told_no _ _ c.from_residual.ensures.1)
+
+pub returns-in_err-back : goal.returns-in_err-back
+unfolding came_back
+returns-in_err-back c =
+    let a = c.args in
+    said_yes a.set a.words.now a.pairs.now a.bits a.out.now a.again.now (record { number = 0; set = c.in_ok-moved.moved }) _ _ c.in_ok-moved.ensures
+    (record { number = number c.in_err-back.field-0.0; set = set_of (empty 0) }) _ refl c.in_err-back.ensures (answer_refused _ _ _ _ _ c.from_residual-in_err-back.ensures.1 refl)
 
 pub returns : goal.returns
+unfolding came_back
 returns c =
     let a = c.args in
-    said_yes a.set a.words.now a.pairs.now a.bits a.out.now a.again.now c.renumber-moved.result _ _ c.renumber-moved.ensures
-    c.renumber_back-back.result _ c.if-number-ne0.false c.renumber_back-back.ensures c.came_back.ensures
+    said_yes a.set a.words.now a.pairs.now a.bits a.out.now a.again.now (record { number = 0; set = c.in_ok-moved.moved }) _ _ c.in_ok-moved.ensures
+    (record { number = 0; set = c.in_ok-back.back }) _ refl c.in_ok-back.ensures (given_yes (λ m. record { number = m; yes = false }) refl c.eq.ensures)
