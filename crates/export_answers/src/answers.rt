@@ -1,5 +1,5 @@
 ghost use Rattle.std.specs.Prelude.{◌≡◌};
-ghost use Rattle.sets.specs.Refusals.{found_of};
+ghost use Rattle.sets.specs.Refusals.{number_of, found_of};
 ghost use Rattle.walks.specs.Rules.{stepped_of, stepped_pair_of};
 ghost use Rattle.export_answers.specs.Answers.{place_of, export_found, export_stepped, export_stepped_pair};
 
@@ -139,5 +139,15 @@ impl FbsSteppedPair {
                 two,
             },
         }
+    }
+}
+
+// The number of questions that are asked alone: 0 where none refuses.
+pub fn number(answer: Result<(), Refusal>) -> u64
+    ensures { result ≡ number_of answer }
+{
+    match answer {
+        Ok(()) => 0,
+        Err(refusal) => refusal.into(),
     }
 }

@@ -3,4 +3,4 @@
 
 mod answers;
 
-pub use answers::{FbsFound, FbsLonger, FbsSlice, FbsStepped, FbsSteppedPair};
+pub use answers::{FbsFound, FbsLonger, FbsSlice, FbsStepped, FbsSteppedPair, number};

@@ -15,5 +15,5 @@ pub extern "C" fn fbs_renumber_and_back(
 ) -> Told
     ensures { AndBack set words.now pairs.now bits out.old again.old result out.new again.new }
 {
-    renumber_and_back(set, words, pairs, bits, out, again)
+    Told::from(renumber_and_back(set, words, pairs, bits, out, again))
 }

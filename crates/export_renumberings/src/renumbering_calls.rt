@@ -17,7 +17,7 @@ pub extern "C" fn fbs_renumber(
 ) -> Edited
     ensures { outcome result out.new ≡ renumber_rule set words.now pairs.now bits out.old }
 {
-    renumber(set, words, pairs, bits, out)
+    Edited::new(FixedBitSet::new(0), renumber(set, words, pairs, bits, out))
 }
 
 #[unsafe(no_mangle)]
@@ -30,5 +30,8 @@ pub extern "C" fn fbs_renumber_back(
 ) -> Edited
     ensures { outcome result out.new ≡ renumber_rule set words.now (swapped pairs.now) bits out.old }
 {
-    renumber_back(set, words, pairs, bits, out)
+    Edited::new(
+        FixedBitSet::new(0),
+        renumber_back(set, words, pairs, bits, out),
+    )
 }

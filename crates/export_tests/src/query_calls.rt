@@ -5,7 +5,7 @@ ghost use Rattle.tests.specs.Rules.{count_ones_rule, count_zeroes_rule};
 ghost use Rattle.tests.specs.Rules.{minimum_rule, maximum_rule};
 ghost use Rattle.export_answers.specs.Answers.{export_found};
 
-use export_answers::{FbsFound, found};
+use export_answers::FbsFound;
 use extremes::{maximum, minimum};
 use range_counts::{count_ones, count_zeroes};
 use sets::{Counted, FixedBitSet, Told};
@@ -15,7 +15,7 @@ use tests::{contains, contains_all_in_range, contains_any_in_range, is_clear, is
 pub extern "C" fn fbs_contains(set: FixedBitSet, words: &[u64], bit: usize) -> Told
     ensures { result ≡ contains_rule set words.now bit }
 {
-    contains(set, words, bit)
+    Told::from(contains(set, words, bit))
 }
 
 #[unsafe(no_mangle)]
@@ -27,7 +27,7 @@ pub extern "C" fn fbs_contains_all_in_range(
 ) -> Told
     ensures { result ≡ contains_all_rule set words.now start end }
 {
-    contains_all_in_range(set, words, start, end)
+    Told::from(contains_all_in_range(set, words, start, end))
 }
 
 #[unsafe(no_mangle)]
@@ -39,21 +39,21 @@ pub extern "C" fn fbs_contains_any_in_range(
 ) -> Told
     ensures { result ≡ contains_any_rule set words.now start end }
 {
-    contains_any_in_range(set, words, start, end)
+    Told::from(contains_any_in_range(set, words, start, end))
 }
 
 #[unsafe(no_mangle)]
 pub extern "C" fn fbs_is_full(set: FixedBitSet, words: &[u64]) -> Told
     ensures { result ≡ is_full_rule set words.now }
 {
-    is_full(set, words)
+    Told::from(is_full(set, words))
 }
 
 #[unsafe(no_mangle)]
 pub extern "C" fn fbs_is_clear(set: FixedBitSet, words: &[u64]) -> Told
     ensures { result ≡ is_clear_rule set words.now }
 {
-    is_clear(set, words)
+    Told::from(is_clear(set, words))
 }
 
 #[unsafe(no_mangle)]
@@ -65,7 +65,7 @@ pub extern "C" fn fbs_count_ones(
 ) -> Counted
     ensures { result ≡ count_ones_rule set words.now start end }
 {
-    count_ones(set, words, start, end)
+    Counted::from(count_ones(set, words, start, end))
 }
 
 #[unsafe(no_mangle)]
@@ -77,19 +77,19 @@ pub extern "C" fn fbs_count_zeroes(
 ) -> Counted
     ensures { result ≡ count_zeroes_rule set words.now start end }
 {
-    count_zeroes(set, words, start, end)
+    Counted::from(count_zeroes(set, words, start, end))
 }
 
 #[unsafe(no_mangle)]
 pub extern "C" fn fbs_minimum(set: FixedBitSet, words: &[u64]) -> FbsFound
     ensures { result ≡ export_found (minimum_rule set words.now) }
 {
-    found(minimum(set, words))
+    FbsFound::from(minimum(set, words))
 }
 
 #[unsafe(no_mangle)]
 pub extern "C" fn fbs_maximum(set: FixedBitSet, words: &[u64]) -> FbsFound
     ensures { result ≡ export_found (maximum_rule set words.now) }
 {
-    found(maximum(set, words))
+    FbsFound::from(maximum(set, words))
 }

@@ -6,7 +6,7 @@ ghost use Rattle.comparisons.specs.Rules.{eq_rule, cmp_rule};
 ghost use Rattle.export_answers.specs.Slices.{export_longer};
 
 use comparisons::{Compared, cmp, eq, is_disjoint, is_subset, is_superset, longer, longer_number};
-use export_answers::FbsLonger;
+use export_answers::{FbsLonger, number};
 use sets::{Counted, FixedBitSet, Told};
 use two_set_counts::{
     difference_count, intersection_count, symmetric_difference_count, union_count,
@@ -21,7 +21,7 @@ pub extern "C" fn fbs_union_count(
 ) -> Counted
     ensures { result ≡ union_count_rule a words.now b other.now }
 {
-    union_count(a, words, b, other)
+    Counted::from(union_count(a, words, b, other))
 }
 
 #[unsafe(no_mangle)]
@@ -33,7 +33,7 @@ pub extern "C" fn fbs_intersection_count(
 ) -> Counted
     ensures { result ≡ intersection_count_rule a words.now b other.now }
 {
-    intersection_count(a, words, b, other)
+    Counted::from(intersection_count(a, words, b, other))
 }
 
 #[unsafe(no_mangle)]
@@ -45,7 +45,7 @@ pub extern "C" fn fbs_difference_count(
 ) -> Counted
     ensures { result ≡ difference_count_rule a words.now b other.now }
 {
-    difference_count(a, words, b, other)
+    Counted::from(difference_count(a, words, b, other))
 }
 
 #[unsafe(no_mangle)]
@@ -57,7 +57,7 @@ pub extern "C" fn fbs_symmetric_difference_count(
 ) -> Counted
     ensures { result ≡ symmetric_difference_count_rule a words.now b other.now }
 {
-    symmetric_difference_count(a, words, b, other)
+    Counted::from(symmetric_difference_count(a, words, b, other))
 }
 
 #[unsafe(no_mangle)]
@@ -69,7 +69,7 @@ pub extern "C" fn fbs_is_disjoint(
 ) -> Told
     ensures { result ≡ is_disjoint_rule a words.now b other.now }
 {
-    is_disjoint(a, words, b, other)
+    Told::from(is_disjoint(a, words, b, other))
 }
 
 #[unsafe(no_mangle)]
@@ -81,7 +81,7 @@ pub extern "C" fn fbs_is_subset(
 ) -> Told
     ensures { result ≡ is_subset_rule a words.now b other.now }
 {
-    is_subset(a, words, b, other)
+    Told::from(is_subset(a, words, b, other))
 }
 
 #[unsafe(no_mangle)]
@@ -93,21 +93,21 @@ pub extern "C" fn fbs_is_superset(
 ) -> Told
     ensures { result ≡ is_superset_rule a words.now b other.now }
 {
-    is_superset(a, words, b, other)
+    Told::from(is_superset(a, words, b, other))
 }
 
 #[unsafe(no_mangle)]
 pub extern "C" fn fbs_eq(a: FixedBitSet, words: &[u64], b: FixedBitSet, other: &[u64]) -> Told
     ensures { result ≡ eq_rule a words.now b other.now }
 {
-    eq(a, words, b, other)
+    Told::from(eq(a, words, b, other))
 }
 
 #[unsafe(no_mangle)]
 pub extern "C" fn fbs_cmp(a: FixedBitSet, words: &[u64], b: FixedBitSet, other: &[u64]) -> Compared
     ensures { result ≡ cmp_rule a words.now b other.now }
 {
-    cmp(a, words, b, other)
+    Compared::from(cmp(a, words, b, other))
 }
 
 #[unsafe(no_mangle)]
@@ -120,17 +120,17 @@ pub extern "C" fn fbs_longer<'a>(
     ensures { result ≡ export_longer a words.now b other.now }
 {
     let part = longer(a, words, b, other);
-    if longer_number(a, words, b, other) != 0 {
-        return FbsLonger {
+    match longer_number(a, words, b, other) {
+        Ok(()) => FbsLonger {
+            second: a.length <= b.length,
+            offset: 0,
+            count: part.len(),
+        },
+        Err(_) => FbsLonger {
             second: false,
             offset: 0,
             count: part.len(),
-        };
-    }
-    FbsLonger {
-        second: a.length <= b.length,
-        offset: 0,
-        count: part.len(),
+        },
     }
 }
 
@@ -143,5 +143,5 @@ pub extern "C" fn fbs_longer_number(
 ) -> u64
     ensures { result ≡ both_questions a words.now b other.now }
 {
-    longer_number(a, words, b, other)
+    number(longer_number(a, words, b, other))
 }

@@ -6,7 +6,9 @@ ghost use Rattle.word_bits.specs.LowMask.{low_mask};
 ghost use Rattle.sets.specs.Questions.{range_question};
 ghost use Rattle.masks.specs.RangeMasks.{range_mask, masks_of};
 
+use export_answers::number;
 use masks::Masks;
+use sets::FixedBitSet;
 use word_bits::LastBit;
 
 #[unsafe(no_mangle)]
@@ -34,7 +36,7 @@ pub extern "C" fn fbs_word_trailing_zeros(word: u64) -> usize
 pub extern "C" fn fbs_last_positive_bit_and_unset(word: u64) -> LastBit
     ensures { result ≡ last_bit_rule word }
 {
-    word_bits::last_positive_bit_and_unset(word)
+    LastBit::from(word_bits::last_positive_bit_and_unset(word))
 }
 
 #[unsafe(no_mangle)]
@@ -48,7 +50,7 @@ pub extern "C" fn fbs_low_mask(r: usize) -> u64
 pub extern "C" fn fbs_ask_range(start: usize, end: usize, length: usize) -> u64
     ensures { result ≡ range_question start end length }
 {
-    sets::ask_range(start, end, length)
+    number(FixedBitSet::new(length).ask_range(start, end))
 }
 
 #[unsafe(no_mangle)]
