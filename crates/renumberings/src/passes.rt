@@ -8,12 +8,10 @@ use renumber_steps::{Pair, Task, Test, is_above, is_old, matches_pair, take_pair
 pub(crate) fn finds(pairs: &[Pair], from: usize, back: bool, test: Test) -> bool
     ensures { result ≡ found test (sided back (drop from pairs.now)) }
 {
-    let mut k = from;
-    while k < pairs.len() {
+    for k in from..pairs.len() {
         if matches_pair(test, pairs[k], back) {
             return true;
         }
-        k += 1;
     }
     false
 }
@@ -22,12 +20,10 @@ pub(crate) fn finds(pairs: &[Pair], from: usize, back: bool, test: Test) -> bool
 pub(crate) fn repeats_above(pairs: &[Pair], back: bool) -> bool
     ensures { result ≡ repeats (aboves (olds (sided back pairs.now))) }
 {
-    let mut k = 0;
-    while k < pairs.len() {
+    for k in 0..pairs.len() {
         let pair = pairs[k];
-        k += 1;
         if is_above(pair, back) {
-            if finds(pairs, k, back, is_old(pair, back)) {
+            if finds(pairs, k + 1, back, is_old(pair, back)) {
                 return true;
             }
         }
@@ -39,12 +35,10 @@ pub(crate) fn repeats_above(pairs: &[Pair], back: bool) -> bool
 pub(crate) fn pass(pairs: &[Pair], back: bool, task: Task, olds: &[u64], words: &mut [u64]) -> bool
     ensures { record { found = result; words = words.new } ≡ passed task olds.now (sided back pairs.now) words.old }
 {
-    let mut k = 0;
-    while k < pairs.len() {
+    for k in 0..pairs.len() {
         if take_pair(task, pairs[k], back, olds, words) {
             return true;
         }
-        k += 1;
     }
     false
 }

@@ -1,10 +1,7 @@
 -- The pass from k on over the words as they are is the whole pass.
-use Rattle.std.proofs.Common.{length, ◌-◌, ◌≡◌}
+use Rattle.std.proofs.Common.{◌≡◌}
 use Rattle.renumber_steps.proofs.PassLaws.{passed_from}
 use Rattle.renumberings.proofs.passes.pass.Given as goal
 
 abbrev pub invariant-loop-k : goal.invariant-loop-k
 invariant-loop-k l = passed_from l.task l.olds l.back l.pairs 0 l.initial.words ≡ passed_from l.task l.olds l.back l.pairs l.k l.words
-
-abbrev pub decreases-loop-k : goal.decreases-loop-k
-decreases-loop-k l = length l.pairs - l.k
