@@ -1,12 +1,11 @@
 ghost use Rattle.std.specs.Prelude.{◌≤◌};
 
 use crate::numbers::{Reading, ended, take};
-use blocks::{block, lesser};
+use blocks::block;
 use history::run_history;
 use sets::blocks_of;
-use std::num::wrapping_add_u64;
 use whole_walks::Walk;
-use word_lists::{part, same};
+use word_lists::part;
 
 fn walk_of(number: u64) -> Walk {
     match number {
@@ -20,12 +19,9 @@ fn walk_of(number: u64) -> Walk {
 
 // The sum of (word k xor k) over the first words.
 fn checksum(words: &[u64], blocks: usize) -> u64 {
-    let stop = lesser(blocks, words.len());
-    let mut sum = 0;
-    let mut k = 0;
-    while k < stop {
-        sum = wrapping_add_u64(sum, words[k] ^ (k as u64));
-        k += 1;
+    let mut sum: u64 = 0;
+    for k in 0..blocks.min(words.len()) {
+        sum = sum.wrapping_add(words[k] ^ k as u64);
     }
     sum
 }
@@ -84,25 +80,24 @@ fn ends_alike(
         part(numbers, at.steps, at.a_length),
         out,
     );
-    let a = ran.a;
-    let b = ran.b;
-    let expected: [u64; 6] = [
-        0,
+    let Ok(ran) = ran else {
+        return false;
+    };
+    let expected = [
         block(numbers, at.a_length),
         block(numbers, at.b_length),
         block(numbers, at.count),
         block(numbers, at.a_sum),
         block(numbers, at.b_sum),
     ];
-    let given: [u64; 6] = [
-        ran.number,
-        a.length as u64,
-        b.length as u64,
+    let given = [
+        ran.a.length as u64,
+        ran.b.length as u64,
         ran.count as u64,
-        checksum(words, blocks_of(a.length)),
-        checksum(other, blocks_of(b.length)),
+        checksum(words, blocks_of(ran.a.length)),
+        checksum(other, blocks_of(ran.b.length)),
     ];
-    same(&given, &expected)
+    given == expected
 }
 
 fn agrees(numbers: &[u64], words: &mut [u64], other: &mut [u64], out: &mut [u64]) -> bool {
@@ -115,86 +110,56 @@ fn agrees(numbers: &[u64], words: &mut [u64], other: &mut [u64], out: &mut [u64]
         return false;
     }
     let at = places_of(calls as usize, steps as usize);
-    if numbers.len() != at.end {
-        return false;
+    numbers.len() == at.end
+        && ends_alike(numbers, at, words, other, out)
+        && part(out, 0, steps as usize) == part(numbers, at.answers, at.a_sum)
+}
+
+// Whether a line's history ends as the line says; none for a line with no number, which is a comment.
+fn judged(
+    line: Reading,
+    numbers: &[u64],
+    words: &mut [u64],
+    other: &mut [u64],
+    out: &mut [u64],
+) -> Option<bool> {
+    if line.is_bad {
+        return Some(false);
     }
-    if !ends_alike(numbers, at, words, other, out) {
-        return false;
+    if line.count == 0 {
+        return None;
     }
-    same(
-        part(out, 0, steps as usize),
-        part(numbers, at.answers, at.a_sum),
-    )
+    Some(agrees(part(numbers, 0, line.count), words, other, out))
 }
 
 // How many histories were replayed, and how many differ.
-#[derive(Clone, Copy)]
+#[derive(Clone, Copy, Debug, PartialEq, Eq)]
 pub struct Tally {
     pub histories: u64,
     pub different: u64,
 }
 
+impl Tally {
+    pub fn new() -> Tally {
+        Tally {
+            histories: 0,
+            different: 0,
+        }
+    }
+
+    fn count(&mut self, agrees: bool) {
+        self.histories = self.histories.wrapping_add(1);
+        if !agrees {
+            self.different = self.different.wrapping_add(1);
+        }
+    }
+}
+
 // What is left of a piece that was read: an unfinished line, and the tally so far.
-#[derive(Clone, Copy)]
+#[derive(Clone, Copy, Debug, PartialEq, Eq)]
 pub struct Fed {
     pub reading: Reading,
     pub tally: Tally,
-}
-
-fn judge(tally: Tally, is_same: bool) -> Tally {
-    let histories = wrapping_add_u64(tally.histories, 1);
-    if is_same {
-        return Tally {
-            histories,
-            different: tally.different,
-        };
-    }
-    Tally {
-        histories,
-        different: wrapping_add_u64(tally.different, 1),
-    }
-}
-
-// The end of a line. A line with no number is a comment.
-fn line_ended(
-    tally: Tally,
-    reading: Reading,
-    numbers: &[u64],
-    words: &mut [u64],
-    other: &mut [u64],
-    out: &mut [u64],
-) -> Tally {
-    if reading.is_bad {
-        return judge(tally, false);
-    }
-    let count = reading.count;
-    if count == 0 {
-        return tally;
-    }
-    judge(tally, agrees(part(numbers, 0, count), words, other, out))
-}
-
-fn feed_byte(
-    byte: u8,
-    fed: Fed,
-    numbers: &mut [u64],
-    words: &mut [u64],
-    other: &mut [u64],
-    out: &mut [u64],
-) -> Fed {
-    let reading = fed.reading;
-    let tally = fed.tally;
-    if byte != b'\n' {
-        return Fed {
-            reading: take(reading, byte, numbers),
-            tally,
-        };
-    }
-    let line = ended(reading, numbers);
-    Fed {
-        reading: Reading::start(),
-        tally: line_ended(tally, line, numbers, words, other, out),
-    }
 }
 
 pub fn feed(
@@ -205,11 +170,18 @@ pub fn feed(
     other: &mut [u64],
     out: &mut [u64],
 ) -> Fed {
-    let mut now = fed;
-    let mut k = 0;
-    while k < piece.len() {
-        now = feed_byte(piece[k], now, numbers, words, other, out);
-        k += 1;
+    let mut reading = fed.reading;
+    let mut tally = fed.tally;
+    for byte in piece {
+        if *byte != b'\n' {
+            reading = take(reading, *byte, numbers);
+            continue;
+        }
+        let line = ended(reading, numbers);
+        reading = Reading::start();
+        if let Some(agrees) = judged(line, numbers, words, other, out) {
+            tally.count(agrees);
+        }
     }
-    now
+    Fed { reading, tally }
 }

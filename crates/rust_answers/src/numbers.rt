@@ -1,5 +1,5 @@
 // What is read of a line: its numbers go into a lent slice, one after the other. After a `#` the rest of the line is a comment.
-#[derive(Clone, Copy)]
+#[derive(Clone, Copy, Debug, PartialEq, Eq)]
 pub struct Reading {
     pub value: u64,
     pub in_number: bool,
@@ -22,25 +22,25 @@ impl Reading {
 }
 
 fn bad(reading: Reading) -> Reading {
-    let mut after = reading;
-    after.is_bad = true;
-    after
+    Reading {
+        is_bad: true,
+        ..reading
+    }
 }
 
-// The largest word is 1,844,674,407,370,955,161 tens and 5.
+// A digit more of a number. One that is no word is bad.
 fn digit(reading: Reading, digit: u64) -> Reading {
-    let value = reading.value;
-    if 1844674407370955161 < value {
+    let Some(tens) = reading.value.checked_mul(10) else {
         return bad(reading);
-    }
-    let tens = value * 10;
-    if u64::MAX - tens < digit {
+    };
+    let Some(value) = tens.checked_add(digit) else {
         return bad(reading);
+    };
+    Reading {
+        value,
+        in_number: true,
+        ..reading
     }
-    let mut after = reading;
-    after.value = tens + digit;
-    after.in_number = true;
-    after
 }
 
 // The number that ends here goes after those before it.
@@ -48,16 +48,16 @@ pub fn ended(reading: Reading, numbers: &mut [u64]) -> Reading {
     if !reading.in_number {
         return reading;
     }
-    let count = reading.count;
-    if numbers.len() <= count {
+    if numbers.len() <= reading.count {
         return bad(reading);
     }
-    numbers[count] = reading.value;
-    let mut after = reading;
-    after.value = 0;
-    after.in_number = false;
-    after.count = count + 1;
-    after
+    numbers[reading.count] = reading.value;
+    Reading {
+        value: 0,
+        in_number: false,
+        count: reading.count + 1,
+        ..reading
+    }
 }
 
 // One byte of a line, other than its end.
@@ -65,19 +65,13 @@ pub fn take(reading: Reading, byte: u8, numbers: &mut [u64]) -> Reading {
     if reading.in_comment {
         return reading;
     }
-    if byte == b'#' {
-        let mut after = ended(reading, numbers);
-        after.in_comment = true;
-        return after;
+    match byte {
+        b'#' => Reading {
+            in_comment: true,
+            ..ended(reading, numbers)
+        },
+        b' ' => ended(reading, numbers),
+        b'0'..=b'9' => digit(reading, (byte - b'0') as u64),
+        _ => bad(reading),
     }
-    if byte == b' ' {
-        return ended(reading, numbers);
-    }
-    if byte < b'0' {
-        return bad(reading);
-    }
-    if b'9' < byte {
-        return bad(reading);
-    }
-    digit(reading, (byte - b'0') as u64)
 }

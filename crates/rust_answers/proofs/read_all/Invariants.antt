@@ -1,5 +1,0 @@
--- Its turns are counted down.
-use Rattle.rust_answers.proofs.read_all.Given as goal
-
-abbrev pub decreases-loop-turns : goal.decreases-loop-turns
-decreases-loop-turns g l = l.turns
