@@ -17,7 +17,7 @@ use Rattle.listings.specs.Pages.{offsets_of, list_text, compare_text, job_text, 
 use Rattle.listing_pieces.specs.Pieces.{stage_number, PieceRight, work_left, Run, done, next}
 use Rattle.listings.specs.declared.jobs.Job.{Job}
 use Rattle.listings.specs.declared.jobs.Page.{Page}
-use Rattle.listings.specs.declared.jobs.Piece.{Piece}
+use Rattle.listing_pieces.specs.Pieces.{Piece}
 use Rattle.listings.specs.declared.jobs.Stage.{Stage}
 use Rattle.listing_lines.proofs.LineLaws.{lines_plain}
 use Rattle.listing_pieces.proofs.SetLaws.{all_left}

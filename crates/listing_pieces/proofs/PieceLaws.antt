@@ -12,11 +12,13 @@ use Rattle.byte_texts.proofs.TextLaws.{written_same, written_room, written-whole
 use Rattle.sets.specs.Members.{Members}
 use Rattle.sets.specs.declared.answers.Part.{Part}
 use Rattle.walks.specs.Rules.{first_part}
-use Rattle.listings.specs.Fills.{listed, FilledRight}
+use Rattle.listing_lines.specs.Listings.{listed}
+use Rattle.whole_walks.specs.declared.walk.Walk.{Walk}
+use Rattle.listings.specs.Fills.{FilledRight}
 use Rattle.listing_lines.specs.Lines.{lines_text}
 use Rattle.listings.specs.Pages.{all_offsets, walk_left, last_text, stage_text, rest_text}
 use Rattle.listing_pieces.specs.Pieces.{page_after, stage_number, PieceRight}
-use Rattle.listings.specs.declared.fills.Filled.{Filled}
+use Rattle.listings.specs.Fills.{Filled}
 use Rattle.listings.specs.declared.jobs.Job.{Job}
 use Rattle.listings.specs.declared.jobs.Page.{Page}
 use Rattle.listings.specs.declared.jobs.Stage.{Stage}
@@ -25,23 +27,23 @@ use Rattle.listing_lines.specs.declared.lines.Listing.{Listing}
 
 -- ---- what a filled buffer and the text behind its walk are
 
-module _ {l : Listing} {has lacks : List ℕ} {c d : Members} {one two : Part} {place : ℕ} {out : List ℕ} {r : Filled} (h : FilledRight l has lacks c d one two place out r) (w : r.whole ≡ true) (follow : ℕ → List ℕ) where
+module _ {walk : Walk} {l : Listing} {c d : Members} {one two : Part} {place : ℕ} {out : List ℕ} {r : Filled} (h : FilledRight walk l c d one two place out r) (w : r.whole ≡ true) (follow : ℕ → List ℕ) where
   abbrev left : Part → Part → List ℕ
-  left p q = walk_left l.walk c d p q
+  left p q = walk_left walk c d p q
 
-  goes : take r.length out ++ (listed l has lacks r.place (left r.one r.two) ++ follow (r.place + length (left r.one r.two)))
-      ≡ listed l has lacks place (left one two) ++ follow (place + length (left one two))
+  goes : take r.length out ++ (listed l r.place (left r.one r.two) ++ follow (r.place + length (left r.one r.two)))
+      ≡ listed l place (left one two) ++ follow (place + length (left one two))
   goes =
-      sym (append_assoc (take r.length out) (listed l has lacks r.place (left r.one r.two)) (follow (r.place + length (left r.one r.two))))
+      sym (append_assoc (take r.length out) (listed l r.place (left r.one r.two)) (follow (r.place + length (left r.one r.two))))
       ∙ ap₂ (λ (t : List ℕ) (k : ℕ). t ++ follow k) (h.text w) (h.counted w)
 
-  ends : r.over ≡ true → take r.length out ++ follow r.place ≡ listed l has lacks place (left one two) ++ follow (place + length (left one two))
+  ends : r.over ≡ true → take r.length out ++ follow r.place ≡ listed l place (left one two) ++ follow (place + length (left one two))
   unfolding lines_text
   ends o =
       let none : left r.one r.two ≡ [] = nothing (left r.one r.two) (h.ended w o) in
       let k : r.place ≡ place + length (left one two) = omega (arith, h.counted w, h.ended w o) in
-      let t : take r.length out ≡ listed l has lacks place (left one two) =
-      sym (append-nil (take r.length out)) ∙ ap (λ (ps : List ℕ). take r.length out ++ listed l has lacks r.place ps) (sym none) ∙ h.text w in
+      let t : take r.length out ≡ listed l place (left one two) =
+      sym (append-nil (take r.length out)) ∙ ap (λ (ps : List ℕ). take r.length out ++ listed l r.place ps) (sym none) ∙ h.text w in
       ap₂ (λ (x : List ℕ) (i : ℕ). x ++ follow i) t k
     where
       nothing : (ps : List ℕ) → length ps ≡ 0 → ps ≡ []
@@ -51,15 +53,15 @@ module _ {l : Listing} {has lacks : List ℕ} {c d : Members} {one two : Part} {
 module _ (job : Job) (name other : List ℕ) (a b : Members) where
   -- ---- lines: what is left to write at a stage are the lines of a walk and what follows
 
-  module _ (l : Listing) (has lacks : List ℕ) (c d : Members) (stage next : Stage) (follow : ℕ → List ℕ)
-      (here : (one two : Part) (place : ℕ) → stage_text stage job name other a b one two place ≡ listed l has lacks place (walk_left l.walk c d one two) ++ follow (place + length (walk_left l.walk c d one two)))
+  module _ (walk : Walk) (l : Listing) (c d : Members) (stage next : Stage) (follow : ℕ → List ℕ)
+      (here : (one two : Part) (place : ℕ) → stage_text stage job name other a b one two place ≡ listed l place (walk_left walk c d one two) ++ follow (place + length (walk_left walk c d one two)))
       (then : (place : ℕ) → stage_text next job name other a b (first_part all_offsets) (first_part all_offsets) place ≡ follow place)
       (later : stage_number stage < stage_number next) where
-    pub lines_piece : {page : Page} {out : List ℕ} {r : Filled} → FilledRight l has lacks c d page.one page.two page.place out r → page.stage ≡ stage
+    pub lines_piece : {page : Page} {out : List ℕ} {r : Filled} → FilledRight walk l c d page.one page.two page.place out r → page.stage ≡ stage
         → PieceRight job name other a b page out (record { length = r.length; page = page_after r stage next; whole = r.whole })
     lines_piece {page} {out} {r} h e = record { fits = h.fits; text = λ w. text w r.over refl; later = λ w. on r.over refl; moves = λ w m s. moves w m r.over refl }
       where
-        before : rest_text job name other a b page ≡ listed l has lacks page.place (walk_left l.walk c d page.one page.two) ++ follow (page.place + length (walk_left l.walk c d page.one page.two))
+        before : rest_text job name other a b page ≡ listed l page.place (walk_left walk c d page.one page.two) ++ follow (page.place + length (walk_left walk c d page.one page.two))
         before = ap (λ (s : Stage). stage_text s job name other a b page.one page.two page.place) e ∙ here page.one page.two page.place
 
         after : (o : Bool) → r.over ≡ o → Page

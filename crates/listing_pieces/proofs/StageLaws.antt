@@ -1,8 +1,11 @@
 -- The pieces of lines, at either stage: what they write, and that they are whole. Assumes nothing.
-use mathlib.Core.Path.{◌≡◌, refl, ap, ap₂, subst, subst⁻¹, ◌∙◌}
+use mathlib.Core.Path.{◌≡◌, refl, sym, ap, subst, subst⁻¹, ◌∙◌}
 use mathlib.Core.Bool.{Bool, true, false, cond}
-use mathlib.Core.List.{List}
-use Prim.Native.Nat.{ℕ, ◌<◌}
+use mathlib.Core.List.{List, [], ◌++◌}
+use Prim.Native.Nat.{ℕ, ◌+◌, ◌≤◌, ◌<◌}
+use lib.ListN.{length}
+use Rattle.std.specs.Prelude.{Option}
+use Rattle.listing_lines.specs.declared.lines.Missing.{Missing}
 use native.Mathlib.Omega.{arith}
 use Rattle.sets.specs.Members.{Members}
 use Rattle.sets.specs.Questions.{both_questions}
@@ -10,10 +13,13 @@ use Rattle.two_set_counts.specs.Lists.{difference_list}
 use Rattle.walks.specs.Rules.{first_part}
 use Rattle.whole_walks.specs.declared.walk.Walk.{Walk}
 use Rattle.whole_walks.specs.declared.walk.Walk.TheVariants.{Difference}
+use Rattle.listing_lines.specs.Lines.{lines_text}
+use Rattle.listing_lines.specs.Listings.{is_missing, has_of, lacks_of, listed}
+use Rattle.listing_lines.proofs.LineLaws.{lines_plain}
 use Rattle.listings.specs.Fills.{Sure, FilledRight, FilledSure}
-use Rattle.listings.specs.Pages.{all_offsets, offsets_of, first_walk, total_of, last_text, second_text, follow_text, first_text, stage_text}
-use Rattle.listing_pieces.specs.Pieces.{after_first, page_after, stage_number, places_left, PieceRight, Able, PieceSure}
-use Rattle.listings.specs.declared.fills.Filled.{Filled}
+use Rattle.listings.specs.Pages.{all_offsets, offsets_of, walk_left, first_walk, total_of, last_text, second_text, follow_text, first_text, stage_text}
+use Rattle.listing_pieces.specs.Pieces.{MissingOf, after_first, page_after, stage_number, places_left, PieceRight, Able, PieceSure}
+use Rattle.listings.specs.Fills.{Filled}
 use Rattle.listings.specs.declared.jobs.Job.{Job}
 use Rattle.listings.specs.declared.jobs.Page.{Page}
 use Rattle.listings.specs.declared.jobs.Stage.{Stage}
@@ -47,36 +53,60 @@ module _ (job : Job) (name other ws vs : List ℕ) where
       go true = unfold stage_text in ap (second_text job name other a b place) (all_left vs ws Difference)
       go false = unfold stage_text in refl
 
-  abbrev FilledWell : Page → List ℕ → Filled → Listing → List ℕ → List ℕ → List ℕ → List ℕ → Type 0
-  FilledWell page out r l has lacks us xs =
-      FilledRight l has lacks (offsets_of us) (offsets_of xs) page.one page.two page.place out r
-      × (Sure l.walk us xs has lacks page.one page.two page.place → FilledSure us xs r)
+  abbrev FilledWell : Page → List ℕ → Filled → Walk → Listing → List ℕ → List ℕ → Type 0
+  FilledWell page out r walk l us xs =
+      FilledRight walk l (offsets_of us) (offsets_of xs) page.one page.two page.place out r
+      × (Sure walk l us xs page.one page.two page.place → FilledSure us xs r)
 
   abbrev PieceWell : Page → List ℕ → Filled → Page → Type 0
   PieceWell page out r p =
       PieceRight job name other a b page out (record { length = r.length; page = p; whole = r.whole })
       × (Able job name other a b page out → PieceSure job a b (record { length = r.length; page = p; whole = r.whole }))
 
-  module _ {page : Page} {out : List ℕ} {r : Filled} {after : Page} {total : ℕ} (n : total ≡ total_of job a b) (ok : both_questions all_offsets ws all_offsets vs ≡ 0) where
-    pub first_piece : {walk : Walk} {stage : Stage} → walk ≡ first_walk job → FilledWell page out r (record { walk = walk; sheet = job.sheet; missing = job.compare; total = total }) name other ws vs
+  -- the lines of a listing of the job, and how long its names are
+  listed_is : (l : Listing) → l.places.sheet ≡ job.sheet → l.places.total ≡ total_of job a b → MissingOf job name other l.missing
+      → (place : ℕ) (ps : List ℕ) → listed l place ps ≡ lines_text job.sheet job.compare name other (total_of job a b) place ps
+  listed_is l s n m place ps = go job.compare refl
+    where
+      go : (t : Bool) → job.compare ≡ t → listed l place ps ≡ lines_text job.sheet job.compare name other (total_of job a b) place ps
+      go true e =
+          let h = m.named e in
+          rw (s, n, m.missing, h.0, h.1) refl
+      go false e =
+          let h = m.unnamed e in
+          rw (s, n, h.0, h.1)
+          (ap (λ (t : Bool). lines_text job.sheet t [] [] (total_of job a b) place ps) (m.missing ∙ e) ∙ sym (lines_plain job.sheet name other (total_of job a b) ps place)
+          ∙ ap (λ (t : Bool). lines_text job.sheet t name other (total_of job a b) place ps) (sym e))
+
+  names_short : {m : Option Missing} → MissingOf job name other m → (length name ≤ 64) × (length other ≤ 64) → (length (has_of m) ≤ 64) × (length (lacks_of m) ≤ 64)
+  names_short {m} h x = go job.compare refl
+    where
+      go : (t : Bool) → job.compare ≡ t → (length (has_of m) ≤ 64) × (length (lacks_of m) ≤ 64)
+      go true e = let g = h.named e in (rw g.0 x.0, rw g.1 x.1)
+      go false e = let g = h.unnamed e in (rw g.0 (omega arith), rw g.1 (omega arith))
+
+  module _ {page : Page} {out : List ℕ} {r : Filled} {after : Page} (ok : both_questions all_offsets ws all_offsets vs ≡ 0) where
+    pub first_piece : {l : Listing} {walk : Walk} {stage : Stage} → l.places.sheet ≡ job.sheet → l.places.total ≡ total_of job a b → MissingOf job name other l.missing
+        → walk ≡ first_walk job → FilledWell page out r walk l ws vs
         → page.stage ≡ First → stage ≡ after_first job → after ≡ page_after r First stage → PieceWell page out r after
     unfolding stage_text first_text places_left
-    first_piece v h e d q =
-        let l : Listing = record { walk = first_walk job; sheet = job.sheet; missing = job.compare; total = total_of job a b } in
-        let g : FilledWell page out r l name other ws vs =
-        subst (λ (x : Listing). FilledWell page out r x name other ws vs) (ap₂ (λ (w : Walk) (k : ℕ). record { walk = w; sheet = job.sheet; missing = job.compare; total = k }) v n) h in
+    first_piece {l} s n m v h e d q =
+        let g : FilledWell page out r (first_walk job) l ws vs = subst (λ (w : Walk). FilledWell page out r w l ws vs) v h in
         subst⁻¹ (PieceWell page out r) (q ∙ ap (page_after r First) d) (
-          lines_piece job name other a b l name other a b First (after_first job) (follow_text job name other a b) (λ one two place. refl) follow_is (stage_later job) g.0 e,
-          λ x. lines_sure job ws vs l name other ws vs First (after_first job) (λ one two. refl) (follow_few job ws vs) (follow_most job ws vs) (omega arith) g.0 g.1 e ok x.short x.ready,
+          lines_piece job name other a b (first_walk job) l a b First (after_first job) (follow_text job name other a b)
+              (λ one two place. ap (λ (t : List ℕ). t ++ follow_text job name other a b (place + length (walk_left (first_walk job) a b one two))) (sym (listed_is l s n m place (walk_left (first_walk job) a b one two))))
+              follow_is (stage_later job) g.0 e,
+          λ x. lines_sure job ws vs (first_walk job) l ws vs First (after_first job) (λ one two. refl) (follow_few job ws vs) (follow_most job ws vs) (omega arith) g.0 g.1 e ok (names_short m x.short) x.ready,
         )
 
-    pub second_piece : FilledWell page out r (record { walk = Difference; sheet = job.sheet; missing = true; total = total }) other name vs ws
+    pub second_piece : {l : Listing} → l.places.sheet ≡ job.sheet → l.places.total ≡ total_of job a b → (is_missing l.missing ≡ true) × (has_of l.missing ≡ other) × (lacks_of l.missing ≡ name)
+        → FilledWell page out r Difference l vs ws
         → page.stage ≡ Second → after ≡ page_after r Second Last → PieceWell page out r after
     unfolding stage_text second_text places_left
-    second_piece h e q =
-        let l : Listing = record { walk = Difference; sheet = job.sheet; missing = true; total = total_of job a b } in
-        let g : FilledWell page out r l other name vs ws = subst (λ (k : ℕ). FilledWell page out r (record { walk = Difference; sheet = job.sheet; missing = true; total = k }) other name vs ws) n h in
+    second_piece {l} s n m h e q =
+        let here : (place : ℕ) (ps : List ℕ) → listed l place ps ≡ lines_text job.sheet true other name (total_of job a b) place ps = λ place ps. rw (s, n, m.0, m.1, m.2) refl in
         subst⁻¹ (PieceWell page out r) q (
-          lines_piece job name other a b l other name b a Second Last (λ place. last_text job name other a b) (λ one two place. refl) (λ place. refl) (omega arith) g.0 e,
-          λ x. lines_sure job ws vs l other name vs ws Second Last (λ one two. refl) (omega arith) (omega arith) (omega arith) g.0 g.1 e (both_swap ws vs ok) (x.short.1, x.short.0) x.ready,
+          lines_piece job name other a b Difference l b a Second Last (λ place. last_text job name other a b)
+              (λ one two place. ap (λ (t : List ℕ). t ++ last_text job name other a b) (sym (here place (walk_left Difference b a one two)))) (λ place. refl) (omega arith) h.0 e,
+          λ x. lines_sure job ws vs Difference l vs ws Second Last (λ one two. refl) (omega arith) (omega arith) (omega arith) h.0 h.1 e (both_swap ws vs ok) (rw m.1 x.short.1, rw m.2 x.short.0) x.ready,
         )

@@ -14,10 +14,12 @@ use Rattle.whole_walks.specs.Walks.{walk_list}
 use Rattle.whole_walks.specs.declared.walk.Walk.TheVariants.{Difference}
 use Rattle.byte_texts.specs.Texts.{Written, written}
 use Rattle.listing_lines.specs.Lines.{count_text, complete_text, verdict_text}
+use Rattle.listing_lines.specs.Listings.{has_of, lacks_of}
+use Rattle.whole_walks.specs.declared.walk.Walk.{Walk}
 use Rattle.listings.specs.Fills.{Sure, FilledRight, FilledSure}
 use Rattle.listings.specs.Pages.{all_offsets, offsets_of, walk_left, first_walk, last_text, first_page}
 use Rattle.listing_pieces.specs.Pieces.{after_first, page_after, places_left, places_most, Ready, PieceSure}
-use Rattle.listings.specs.declared.fills.Filled.{Filled}
+use Rattle.listings.specs.Fills.{Filled}
 use Rattle.listings.specs.declared.jobs.Job.{Job}
 use Rattle.listings.specs.declared.jobs.Page.{Page}
 use Rattle.listings.specs.declared.jobs.Stage.{Stage}
@@ -35,17 +37,17 @@ module _ (job : Job) (ws vs : List ℕ) where
   abbrev b : Members
   b = offsets_of vs
 
-  module _ (l : Listing) (has lacks us xs : List ℕ) (stage next : Stage)
-      (same : (one two : Part) → places_left stage job a b one two ≡ length (walk_left l.walk (offsets_of us) (offsets_of xs) one two))
+  module _ (walk : Walk) (l : Listing) (us xs : List ℕ) (stage next : Stage)
+      (same : (one two : Part) → places_left stage job a b one two ≡ length (walk_left walk (offsets_of us) (offsets_of xs) one two))
       (small : places_left next job a b (first_part all_offsets) (first_part all_offsets) ≤ 65536)
       (more : places_most stage + 65536 ≤ places_most next) (top : places_most stage ≤ 2 ^ 32) where
-    pub lines_sure : {page : Page} {out : List ℕ} {r : Filled} → FilledRight l has lacks (offsets_of us) (offsets_of xs) page.one page.two page.place out r
-        → (Sure l.walk us xs has lacks page.one page.two page.place → FilledSure us xs r) → page.stage ≡ stage
-        → both_questions all_offsets us all_offsets xs ≡ 0 → (length has ≤ 64) × (length lacks ≤ 64) → Ready job a b page
+    pub lines_sure : {page : Page} {out : List ℕ} {r : Filled} → FilledRight walk l (offsets_of us) (offsets_of xs) page.one page.two page.place out r
+        → (Sure walk l us xs page.one page.two page.place → FilledSure us xs r) → page.stage ≡ stage
+        → both_questions all_offsets us all_offsets xs ≡ 0 → (length (has_of l.missing) ≤ 64) × (length (lacks_of l.missing) ≤ 64) → Ready job a b page
         → PieceSure job a b (record { length = r.length; page = page_after r stage next; whole = r.whole })
     lines_sure {page} {out} {r} h f e q s d = record { whole = sure.whole; ready = go r.over refl }
       where
-        before : page.place + length (walk_left l.walk (offsets_of us) (offsets_of xs) page.one page.two) ≤ places_most stage
+        before : page.place + length (walk_left walk (offsets_of us) (offsets_of xs) page.one page.two) ≤ places_most stage
         before =
             let p = subst (λ (x : Stage). page.place + places_left x job a b page.one page.two ≤ places_most x) e d.places in
             omega (arith, same page.one page.two)

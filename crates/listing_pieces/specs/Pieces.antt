@@ -1,5 +1,5 @@
 -- What the next piece has to be.
-use Rattle.std.specs.Prelude.{◌≡◌, true, cond, List, [], ◌∷◌, ◌++◌, ◌⊎◌, ℕ, ◌+◌, ◌-◌, ◌^◌, ◌≤◌, ◌<◌, length, take}
+use Rattle.std.specs.Prelude.{◌≡◌, Bool, true, false, cond, Option, None, Some, List, [], ◌∷◌, ◌++◌, ◌⊎◌, ℕ, ◌+◌, ◌-◌, ◌^◌, ◌≤◌, ◌<◌, length, take}
 use Rattle.sets.specs.Members.{Members}
 use Rattle.sets.specs.Questions.{part_question}
 use Rattle.sets.specs.declared.answers.Part.{Part}
@@ -7,10 +7,12 @@ use Rattle.two_set_counts.specs.Lists.{ones_list, difference_list}
 use Rattle.walks.specs.Rules.{first_part}
 use Rattle.whole_walks.specs.declared.walk.Walk.TheVariants.{Difference}
 use Rattle.listings.specs.Pages.{all_offsets, walk_left, first_walk, rest_text}
-use Rattle.listings.specs.declared.fills.Filled.{Filled}
+use Rattle.listings.specs.Fills.{Filled}
+use Rattle.listing_lines.specs.Listings.{is_missing, has_of, lacks_of}
+use Rattle.listing_lines.specs.declared.lines.Missing.{Missing}
 use Rattle.listings.specs.declared.jobs.Job.{Job}
 use Rattle.listings.specs.declared.jobs.Page.{Page}
-use Rattle.listings.specs.declared.jobs.Piece.{Piece}
+use Rattle.listings.specs.declared.jobs.Written.{Written}
 use Rattle.listings.specs.declared.jobs.Stage.{Stage}
 use Rattle.listings.specs.declared.jobs.Stage.TheVariants.{First, Second, Last, Over}
 use Rattle.verdict_lines.specs.declared.last_lines.Sizes.{Sizes}
@@ -35,6 +37,23 @@ stage_number First = 0
 stage_number Second = 1
 stage_number Last = 2
 stage_number Over = 3
+
+-- the lines of a comparison have the names of its files, those of a list none
+pub record MissingOf (job : Job) (name other : List ℕ) (m : Option Missing) : Type 0 where
+  pub missing : is_missing m ≡ job.compare
+  pub named : job.compare ≡ true → (has_of m ≡ name) × (lacks_of m ≡ other)
+  pub unnamed : job.compare ≡ false → (has_of m ≡ []) × (lacks_of m ≡ [])
+
+-- how many bytes of the buffer are the next piece, what is left then, and whether it could be written
+pub record Piece : Type 0 where
+  pub length : ℕ
+  pub page : Page
+  pub whole : Bool
+
+-- what a call gives, as such a record: nothing is none
+abbrev pub piece_of : Page → Option Written → Piece
+piece_of page None = record { length = 0; page = page; whole = false }
+piece_of page (Some w) = record { length = w.length; page = w.page; whole = true }
 
 pub record PieceRight (job : Job) (name other : List ℕ) (a b : Members) (page : Page) (out : List ℕ) (r : Piece) : Type 0 where
   pub fits : r.length ≤ length out

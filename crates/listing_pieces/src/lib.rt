@@ -2,8 +2,8 @@
 #![tactic(auto)]
 
 mod pages;
+mod pairs;
 mod verdicts;
-mod walk_sizes;
 
 pub use pages::{first_page, next_piece};
 pub use verdicts::same_offsets;

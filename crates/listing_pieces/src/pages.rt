@@ -1,18 +1,22 @@
-ghost use Rattle.std.specs.Prelude.{◌≡◌};
+ghost use Rattle.std.specs.Prelude.{◌≡◌, Some};
+ghost use Rattle.byte_texts.specs.Growth.{Appended};
 ghost use Rattle.byte_texts.specs.Texts.{written};
 ghost use Rattle.sets.specs.Questions.{both_questions};
+ghost use Rattle.listings.specs.Fills.{filled_of};
 ghost use Rattle.listings.specs.Pages.{all_offsets, offsets_of, first_walk, total_of, last_text, first_page};
-ghost use Rattle.listing_pieces.specs.Pieces.{sizes_of, after_first, page_after, PieceRight, Able, PieceSure};
+ghost use Rattle.listing_pieces.specs.Pieces.{sizes_of, MissingOf, after_first, page_after, piece_of, PieceRight, Able, PieceSure};
 
-use crate::walk_sizes::walk_size;
-use listing_lines::Listing;
-use listings::{Filled, Job, Page, Piece, Stage, fill_walk};
-use sets::{FixedBitSet, check_both};
-use verdict_lines::{Sizes, append_complete, append_count, append_verdict};
+use crate::pairs::Pair;
+use byte_texts::Text;
+use listing_lines::{Listing, Missing, Places};
+use listings::{Job, Lines, Page, Stage, Written, fill_walk};
+use sets::FixedBitSet;
+use verdict_lines::{Sizes, Verdict, append_complete, append_count};
 use walks::first_part;
 use whole_walks::Walk;
 
 // The page before any line.
+#[tactic(auto, unfolding(listings::specs::Pages::first_page))]
 pub fn first_page(job: Job) -> Page
     ensures { result ≡ first_page job }
 {
@@ -26,14 +30,19 @@ pub fn first_page(job: Job) -> Page
     }
 }
 
+#[tactic(auto, unfolding(listings::specs::Pages::first_walk))]
 fn first_walk(job: Job) -> Walk
     ensures { result ≡ first_walk job }
 {
-    let walk = job.walk;
-    if job.compare { Walk::Difference } else { walk }
+    if job.compare {
+        Walk::Difference
+    } else {
+        job.walk
+    }
 }
 
 // What comes after the lines of the first walk.
+#[tactic(auto, unfolding(crate::specs::Pieces::after_first))]
 fn after_first(job: Job) -> Stage
     ensures { result ≡ after_first job }
 {
@@ -45,180 +54,190 @@ fn after_first(job: Job) -> Stage
 }
 
 // How many lines there are in all.
-fn total_of(job: Job, words: &[u64], other: &[u64]) -> usize
-    requires { both_questions all_offsets words.now all_offsets other.now ≡ 0 }
-    ensures { result ≡ total_of job (offsets_of words.now) (offsets_of other.now) }
+fn total_of(job: Job, pair: Pair<'_>) -> usize
+    ensures { result ≡ total_of job (offsets_of pair.entry.words.now) (offsets_of pair.entry.other.now) }
 {
-    let walk = job.walk;
     if job.compare {
-        return walk_size(words, other, Walk::Difference)
-            + walk_size(other, words, Walk::Difference);
+        return pair.walk_size(Walk::Difference) + pair.swapped().walk_size(Walk::Difference);
     }
-    walk_size(words, other, walk)
+    pair.walk_size(job.walk)
 }
 
-fn sizes_of(words: &[u64], other: &[u64]) -> Sizes
-    requires { both_questions all_offsets words.now all_offsets other.now ≡ 0 }
-    ensures { result ≡ sizes_of (offsets_of words.now) (offsets_of other.now) }
+fn sizes_of(pair: Pair<'_>) -> Sizes
+    ensures { result ≡ sizes_of (offsets_of pair.entry.words.now) (offsets_of pair.entry.other.now) }
 {
+    let swapped = pair.swapped();
     Sizes {
-        name: walk_size(words, other, Walk::Ones) as u64,
-        other: walk_size(other, words, Walk::Ones) as u64,
-        extra: walk_size(words, other, Walk::Difference) as u64,
-        lacking: walk_size(other, words, Walk::Difference) as u64,
+        name: pair.walk_size(Walk::Ones) as u64,
+        other: swapped.walk_size(Walk::Ones) as u64,
+        extra: pair.walk_size(Walk::Difference) as u64,
+        lacking: swapped.walk_size(Walk::Difference) as u64,
     }
 }
 
 // The page after lines: what is left of their walk, or, where that is nothing, the stage that comes then.
-fn page_after(filled: Filled, stage: Stage, then: Stage) -> Page
-    ensures { result ≡ page_after filled stage then }
+#[tactic(auto, unfolding(crate::specs::Pieces::page_after))]
+fn page_after(lines: Lines, stage: Stage, then: Stage) -> Page
+    ensures { result ≡ page_after (filled_of lines.one lines.two lines.place (Some lines)) stage then }
 {
-    let one = filled.one;
-    let two = filled.two;
-    let place = filled.place;
-    if filled.over {
+    if lines.over {
         let part = first_part(FixedBitSet { length: 65536 });
         return Page {
             stage: then,
             one: part,
             two: part,
-            place,
+            place: lines.place,
         };
     }
     Page {
         stage,
-        one,
-        two,
-        place,
+        one: lines.one,
+        two: lines.two,
+        place: lines.place,
     }
+}
+
+// The names of the two files, as they are shown.
+#[derive(Clone, Copy)]
+struct Names<'a> {
+    name: &'a [u8],
+    table: &'a [u8],
+}
+
+// Of a comparison, the names of the files of its first lines.
+fn missing_of<'a>(job: Job, names: Names<'a>) -> Option<Missing<'a>>
+    ensures { MissingOf job names.entry.name.now names.entry.table.now result }
+{
+    if job.compare {
+        return Some(Missing {
+            has: names.name,
+            lacks: names.table,
+        });
+    }
+    None
 }
 
 fn first_lines(
     job: Job,
-    words: &[u64],
-    other: &[u64],
-    name: &[u8],
-    table: &[u8],
+    pair: Pair<'_>,
+    names: Names<'_>,
     page: Page,
     out: &mut [u8],
-) -> Piece
-    requires { (both_questions all_offsets words.now all_offsets other.now ≡ 0) × (page.stage ≡ Stage.First) }
-    ensures { PieceRight job name.now table.now (offsets_of words.now) (offsets_of other.now) page out.new result × (Able job name.now table.now (offsets_of words.now) (offsets_of other.now) page out.new → PieceSure job (offsets_of words.now) (offsets_of other.now) result) }
+) -> Option<Written>
+    requires { page.stage ≡ Stage.First }
+    ensures { PieceRight job names.entry.name.now names.entry.table.now (offsets_of pair.entry.words.now) (offsets_of pair.entry.other.now) page out.new (piece_of page result) × (Able job names.entry.name.now names.entry.table.now (offsets_of pair.entry.words.now) (offsets_of pair.entry.other.now) page out.new → PieceSure job (offsets_of pair.entry.words.now) (offsets_of pair.entry.other.now) (piece_of page result)) }
 {
-    let total = total_of(job, words, other);
-    let walk = first_walk(job);
-    let listing = Listing {
-        walk,
+    let places = Places {
         sheet: job.sheet,
-        missing: job.compare,
-        total,
+        total: total_of(job, pair),
     };
-    let one = page.one;
-    let two = page.two;
-    let filled = fill_walk(
-        out, words, other, listing, name, table, one, two, page.place,
-    );
-    let then = after_first(job);
-    let next = page_after(filled, Stage::First, then);
-    Piece {
-        length: filled.length,
-        page: next,
-        whole: filled.whole,
-    }
+    let listing = Listing {
+        places,
+        missing: missing_of(job, names),
+    };
+    let walk = first_walk(job);
+    let Some(lines) = fill_walk(
+        out, walk, pair.words, pair.other, listing, page.one, page.two, page.place,
+    ) else {
+        return None;
+    };
+    Some(Written {
+        length: lines.length,
+        page: page_after(lines, Stage::First, after_first(job)),
+    })
 }
 
 fn second_lines(
     job: Job,
-    words: &[u64],
-    other: &[u64],
-    name: &[u8],
-    table: &[u8],
+    pair: Pair<'_>,
+    names: Names<'_>,
     page: Page,
     out: &mut [u8],
-) -> Piece
-    requires { (both_questions all_offsets words.now all_offsets other.now ≡ 0) × (page.stage ≡ Stage.Second) }
-    ensures { PieceRight job name.now table.now (offsets_of words.now) (offsets_of other.now) page out.new result × (Able job name.now table.now (offsets_of words.now) (offsets_of other.now) page out.new → PieceSure job (offsets_of words.now) (offsets_of other.now) result) }
+) -> Option<Written>
+    requires { page.stage ≡ Stage.Second }
+    ensures { PieceRight job names.entry.name.now names.entry.table.now (offsets_of pair.entry.words.now) (offsets_of pair.entry.other.now) page out.new (piece_of page result) × (Able job names.entry.name.now names.entry.table.now (offsets_of pair.entry.words.now) (offsets_of pair.entry.other.now) page out.new → PieceSure job (offsets_of pair.entry.words.now) (offsets_of pair.entry.other.now) (piece_of page result)) }
 {
-    let total = total_of(job, words, other);
-    let listing = Listing {
-        walk: Walk::Difference,
+    let places = Places {
         sheet: job.sheet,
-        missing: true,
-        total,
+        total: total_of(job, pair),
     };
-    let one = page.one;
-    let two = page.two;
-    let filled = fill_walk(
-        out, other, words, listing, table, name, one, two, page.place,
-    );
-    let next = page_after(filled, Stage::Second, Stage::Last);
-    Piece {
-        length: filled.length,
-        page: next,
-        whole: filled.whole,
-    }
+    let missing = Some(Missing {
+        has: names.table,
+        lacks: names.name,
+    });
+    let listing = Listing { places, missing };
+    let Some(lines) = fill_walk(
+        out,
+        Walk::Difference,
+        pair.other,
+        pair.words,
+        listing,
+        page.one,
+        page.two,
+        page.place,
+    ) else {
+        return None;
+    };
+    Some(Written {
+        length: lines.length,
+        page: page_after(lines, Stage::Second, Stage::Last),
+    })
 }
 
 // The last line: the verdict, the count alone, or that the list is complete.
-fn append_last(
-    out: &mut [u8],
-    job: Job,
-    words: &[u64],
-    other: &[u64],
-    name: &[u8],
-    table: &[u8],
-) -> usize
-    requires { both_questions all_offsets words.now all_offsets other.now ≡ 0 }
-    ensures { record { end = result; out = out.new } ≡ written out.old 0 (last_text job name.now table.now (offsets_of words.now) (offsets_of other.now)) }
+fn append_last(text: &mut Text, job: Job, pair: Pair<'_>, names: Names<'_>)
+    ensures { Appended text.old text.new (last_text job names.entry.name.now names.entry.table.now (offsets_of pair.entry.words.now) (offsets_of pair.entry.other.now)) }
 {
     if job.compare {
-        let sizes = sizes_of(words, other);
-        return append_verdict(out, 0, job.several, name, table, sizes);
+        let verdict = Verdict {
+            name: names.name,
+            other: names.table,
+            sizes: sizes_of(pair),
+        };
+        return verdict.append(text, job.several);
     }
-    let walk = job.walk;
-    let size = walk_size(words, other, walk) as u64;
+    let size = pair.walk_size(job.walk) as u64;
     if job.count {
-        return append_count(out, 0, size);
+        return append_count(text, size);
     }
-    append_complete(out, 0, size)
+    append_complete(text, size);
+}
+
+// The same at the start of the buffer. Gives where it ends.
+fn put_last(out: &mut [u8], job: Job, pair: Pair<'_>, names: Names<'_>) -> usize
+    ensures { record { end = result; out = out.new } ≡ written out.old 0 (last_text job names.entry.name.now names.entry.table.now (offsets_of pair.entry.words.now) (offsets_of pair.entry.other.now)) }
+{
+    let mut text = Text::new(out);
+    append_last(&mut text, job, pair, names);
+    text.end
 }
 
 fn last_line(
     job: Job,
-    words: &[u64],
-    other: &[u64],
-    name: &[u8],
-    table: &[u8],
+    pair: Pair<'_>,
+    names: Names<'_>,
     page: Page,
     out: &mut [u8],
-) -> Piece
-    requires { (both_questions all_offsets words.now all_offsets other.now ≡ 0) × (page.stage ≡ Stage.Last) }
-    ensures { PieceRight job name.now table.now (offsets_of words.now) (offsets_of other.now) page out.new result × (Able job name.now table.now (offsets_of words.now) (offsets_of other.now) page out.new → PieceSure job (offsets_of words.now) (offsets_of other.now) result) }
+) -> Option<Written>
+    requires { page.stage ≡ Stage.Last }
+    ensures { PieceRight job names.entry.name.now names.entry.table.now (offsets_of pair.entry.words.now) (offsets_of pair.entry.other.now) page out.new (piece_of page result) × (Able job names.entry.name.now names.entry.table.now (offsets_of pair.entry.words.now) (offsets_of pair.entry.other.now) page out.new → PieceSure job (offsets_of pair.entry.words.now) (offsets_of pair.entry.other.now) (piece_of page result)) }
 {
-    let size = out.len();
-    let end = append_last(out, job, words, other, name, table);
-    if size <= end {
-        return Piece {
-            length: 0,
-            page,
-            whole: false,
-        };
+    let end = put_last(out, job, pair, names);
+    if out.len() <= end {
+        return None;
     }
-    let one = page.one;
-    let two = page.two;
-    Piece {
+    Some(Written {
         length: end,
         page: Page {
             stage: Stage::Over,
-            one,
-            two,
+            one: page.one,
+            two: page.two,
             place: page.place,
         },
-        whole: true,
-    }
+    })
 }
 
-// The next piece of what a command writes, from the sets of its files and their names as they are shown.
+// The next piece of what a command writes, from the sets of its files and their names as they are shown; none where it could not be written.
 pub fn next_piece(
     job: Job,
     words: &[u64],
@@ -227,27 +246,17 @@ pub fn next_piece(
     table: &[u8],
     page: Page,
     out: &mut [u8],
-) -> Piece
-    ensures { PieceRight job name.now table.now (offsets_of words.now) (offsets_of other.now) page out.new result × (both_questions all_offsets words.now all_offsets other.now ≡ 0 → Able job name.now table.now (offsets_of words.now) (offsets_of other.now) page out.new → PieceSure job (offsets_of words.now) (offsets_of other.now) result) }
+) -> Option<Written>
+    ensures { PieceRight job name.now table.now (offsets_of words.now) (offsets_of other.now) page out.new (piece_of page result) × (both_questions all_offsets words.now all_offsets other.now ≡ 0 → Able job name.now table.now (offsets_of words.now) (offsets_of other.now) page out.new → PieceSure job (offsets_of words.now) (offsets_of other.now) (piece_of page result)) }
 {
-    let set = FixedBitSet { length: 65536 };
-    let number = check_both(set, words, set, other);
-    if number != 0 {
-        return Piece {
-            length: 0,
-            page,
-            whole: false,
-        };
-    }
-    let stage = page.stage;
-    match stage {
-        Stage::First => first_lines(job, words, other, name, table, page, out),
-        Stage::Second => second_lines(job, words, other, name, table, page, out),
-        Stage::Last => last_line(job, words, other, name, table, page, out),
-        Stage::Over => Piece {
-            length: 0,
-            page,
-            whole: true,
-        },
+    let Ok(pair) = Pair::new(words, other) else {
+        return None;
+    };
+    let names = Names { name, table };
+    match page.stage {
+        Stage::First => first_lines(job, pair, names, page, out),
+        Stage::Second => second_lines(job, pair, names, page, out),
+        Stage::Last => last_line(job, pair, names, page, out),
+        Stage::Over => Some(Written { length: 0, page }),
     }
 }

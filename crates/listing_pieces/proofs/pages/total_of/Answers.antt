@@ -1,21 +1,28 @@
-use mathlib.Core.Path.{ap₂}
-use Prim.Native.Nat.{◌+◌}
+use mathlib.Core.Path.{◌≡◌, ap₂, ◌∙◌}
+use mathlib.Core.List.{List}
+use Prim.Native.Nat.{ℕ, ◌+◌}
 use native.Mathlib.Omega.{arith}
-use Rattle.listings.specs.Pages.{total_of}
-use Rattle.listing_pieces.proofs.SetLaws.{both_swap, difference_small}
+use lib.ListN.{length}
+use Rattle.two_set_counts.specs.Lists.{difference_list}
+use Rattle.listings.specs.Pages.{offsets_of, total_of}
+use Rattle.listing_pieces.proofs.SetLaws.{difference_small}
 use Rattle.listing_pieces.proofs.pages.total_of.Goals as goal
+use Rattle.listing_pieces.proofs.pages.total_of.Goals.{After-walk_size-then-job}
 
-pub walk_size-requires-then-job : goal.walk_size-requires-then-job
-walk_size-requires-then-job c = both_swap _ _ c.requires
+swapped : (c : After-walk_size-then-job)
+    → let p = c.args.pair in
+    c.walk_size-then-job.result ≡ length (difference_list (offsets_of p.other.now) (offsets_of p.words.now))
+swapped c =
+    c.walk_size-then-job.ensures ∙ ap₂ (λ (ws vs : List ℕ). length (difference_list (offsets_of ws) (offsets_of vs))) c.swapped.ensures.0 c.swapped.ensures.1
 
 pub overflow_add-result : goal.overflow_add-result
 overflow_add-result c =
-    let a = c.args in
-    omega (arith, c.walk_size.ensures, c.walk_size-then-job.ensures, difference_small a.words.now a.other.now, difference_small a.other.now a.words.now)
+    let p = c.args.pair in
+    omega (arith, c.walk_size.ensures, swapped (goal.at.overflow_add-result c).After-walk_size-then-job, difference_small p.words.now p.other.now, difference_small p.other.now p.words.now)
 
 pub returns-then-job : goal.returns-then-job
 unfolding total_of
-returns-then-job c = rw c.if-job.true (ap₂ ◌+◌ c.walk_size.ensures c.walk_size-then-job.ensures)
+returns-then-job c = rw c.if-job.true (ap₂ ◌+◌ c.walk_size.ensures (swapped (goal.at.returns-then-job c).After-walk_size-then-job))
 
 pub returns : goal.returns
 unfolding total_of

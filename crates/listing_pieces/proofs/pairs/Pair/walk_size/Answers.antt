@@ -1,0 +1,8 @@
+use mathlib.Core.Path.{◌∙◌}
+use Rattle.listing_pieces.proofs.SetLaws.{size_is}
+use Rattle.listing_pieces.proofs.pairs.Pair.walk_size.Goals as goal
+
+pub returns : goal.returns
+returns c =
+    let p = c.args.self in
+    c.unwrap_or.ensures ∙ size_is p.words.now p.other.now c.args.walk _ p.sound c.walk_count.ensures
