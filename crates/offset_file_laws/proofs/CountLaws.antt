@@ -12,8 +12,9 @@ use Rattle.word_bits.specs.Digits.{one}
 use Rattle.word_bits.proofs.Ones.{count_ext, count-le, count_none}
 use Rattle.word_bits.proofs.Order.{lt-or-le}
 use Rattle.offset_lines.specs.Lines.{line_of}
-use Rattle.offset_lines.specs.declared.entry.Entry.{Entry}
-use Rattle.offset_lines.specs.declared.entry.Entry.TheVariants.{Blank, Offset, Says, NotANumber, TooLarge, CarriageReturn, TooLong, Damaged}
+use Rattle.offset_file_laws.specs.Entries.{LineEntry}
+use Rattle.std.specs.Prelude.{Ok, Err}
+use Rattle.offset_lines.specs.declared.entry.Entry.TheVariants.{Blank, Item, Says}
 use Rattle.offset_lines.proofs.LineLaws.{offset_below}
 use Rattle.text_lines.specs.Texts.{more}
 use Rattle.offset_files.specs.Files.{File, no_lines, entry_line, file_of}
@@ -52,20 +53,20 @@ module _ (name body : List ℕ) (f : File) (c : Counted f) where
   counted_same : {g : File} → g.named ≡ f.named → ((p : ℕ) → g.first p ≡ f.first p) → Counted g
   counted_same {g} n s = record { is = n ∙ c.is ∙ count_ext 65536 (has_line f) (has_line g) (λ p l. ap (λ (k : ℕ). not (eqb k 0)) (sym (s p))) }
 
-  other-counted : (e : Entry) → ((q : ℕ) → is_offset q e ≡ false) → Counted (entry_line name body e f)
+  other-counted : (e : LineEntry) → ((q : ℕ) → is_offset q e ≡ false) → Counted (entry_line name body e f)
   other-counted e h =
       counted_same (other-named name body f e (λ q o. never (sym (h q) ∙ o)))
       (λ p. entry_first name body f p e ∙ ap (λ (t : Bool). cond (t && (not f.said && eqb (f.first p) 0)) (more f.lines) (f.first p)) (h p))
 
-  offset_counted : (q : ℕ) → q < 65536 → Counted (entry_line name body (Offset q) f)
+  offset_counted : (q : ℕ) → q < 65536 → Counted (entry_line name body (Ok (Item q)) f)
   unfolding is_offset more
   offset_counted q l = go (not f.said && eqb (f.first q) 0) refl
     where
       g : File
-      g = entry_line name body (Offset q) f
+      g = entry_line name body (Ok (Item q)) f
 
       at : (p : ℕ) (t : Bool) → eqb p q ≡ t → g.first p ≡ cond (t && (not f.said && eqb (f.first p) 0)) (more f.lines) (f.first p)
-      at p t e = entry_first name body f p (Offset q) ∙ ap (λ (t : Bool). cond (t && (not f.said && eqb (f.first p) 0)) (more f.lines) (f.first p)) e
+      at p t e = entry_first name body f p (Ok (Item q)) ∙ ap (λ (t : Bool). cond (t && (not f.said && eqb (f.first p) 0)) (more f.lines) (f.first p)) e
 
       other : (p : ℕ) → (p ≡ q → ⊥) → g.first p ≡ f.first p
       other p n = at p false (ne_eqb p q n)
@@ -92,16 +93,12 @@ module _ (name body : List ℕ) (f : File) (c : Counted f) where
           same p true d = subst (λ (r : ℕ). g.first r ≡ f.first r) (sym (eqb-true p q d)) (here false e)
           same p false d = other p (eqb-false p q d)
 
-  entry_counted : (e : Entry) → ((q : ℕ) → e ≡ Offset q → q < 65536) → Counted (entry_line name body e f)
+  entry_counted : (e : LineEntry) → ((q : ℕ) → e ≡ Ok (Item q) → q < 65536) → Counted (entry_line name body e f)
   unfolding is_offset
-  entry_counted Blank l = other-counted Blank (λ q. refl)
-  entry_counted (Offset q) l = offset_counted q (l q refl)
-  entry_counted (Says n) l = other-counted (Says n) (λ q. refl)
-  entry_counted NotANumber l = other-counted NotANumber (λ q. refl)
-  entry_counted TooLarge l = other-counted TooLarge (λ q. refl)
-  entry_counted CarriageReturn l = other-counted CarriageReturn (λ q. refl)
-  entry_counted TooLong l = other-counted TooLong (λ q. refl)
-  entry_counted Damaged l = other-counted Damaged (λ q. refl)
+  entry_counted (Ok Blank) l = other-counted (Ok Blank) (λ q. refl)
+  entry_counted (Ok (Item q)) l = offset_counted q (l q refl)
+  entry_counted (Ok (Says n)) l = other-counted (Ok (Says n)) (λ q. refl)
+  entry_counted (Err fault) l = other-counted (Err fault) (λ q. refl)
 
 module _ (name : List ℕ) where
   counted-from : (bodies : List (List ℕ)) (f : File) → Counted f → Counted (entered name f bodies)

@@ -10,8 +10,9 @@ use Rattle.word_bits.specs.Counts.{count}
 use Rattle.word_bits.proofs.Ones.{count_ext}
 use Rattle.sets.specs.Members.{read}
 use Rattle.offset_lines.specs.Lines.{line_of}
-use Rattle.offset_lines.specs.declared.entry.Entry.{Entry}
-use Rattle.offset_lines.specs.declared.entry.Entry.TheVariants.{Blank, Offset, Says, NotANumber, TooLarge, CarriageReturn, TooLong, Damaged}
+use Rattle.offset_file_laws.specs.Entries.{LineEntry}
+use Rattle.std.specs.Prelude.{Ok, Err}
+use Rattle.offset_lines.specs.declared.entry.Entry.TheVariants.{Blank, Item, Says}
 use Rattle.offset_files.specs.Files.{File, no_lines, entry_line, file_of}
 use Rattle.offset_file_laws.specs.Entries.{lines_of, bodies_of, entries_of, is_offset, is_last, says_count, some_entry}
 use Rattle.offset_files.specs.Holds.{HoldsFile, all_offsets}
@@ -26,16 +27,12 @@ use Rattle.offset_file_laws.proofs.RoomLaws.{room, report_room}
 module _ (name : List ℕ) where
   -- ---- what the last line says
 
-  says_last : (n : ℕ) (e : Entry) → says_count n e ≡ true → (is_last e ≡ true) × ((q : ℕ) → is_offset q e ≡ true → ⊥)
+  says_last : (n : ℕ) (e : LineEntry) → says_count n e ≡ true → (is_last e ≡ true) × ((q : ℕ) → is_offset q e ≡ true → ⊥)
   unfolding says_count is_last is_offset
-  says_last n Blank s = never s
-  says_last n (Offset q) s = never s
-  says_last n (Says m) s = (refl, λ q o. never o)
-  says_last n NotANumber s = never s
-  says_last n TooLarge s = never s
-  says_last n CarriageReturn s = never s
-  says_last n TooLong s = never s
-  says_last n Damaged s = never s
+  says_last n (Ok Blank) s = never s
+  says_last n (Ok (Item q)) s = never s
+  says_last n (Ok (Says m)) s = (refl, λ q o. never o)
+  says_last n (Err fault) s = never s
 
   or_yes : (t : Bool) → (t || true) ≡ true
   or_yes true = refl
@@ -74,21 +71,21 @@ module _ (name : List ℕ) where
 
   module _ (text : List ℕ) {r : Reading} {words table report : List ℕ} (h : HoldsFile (file_of name text) r words table report) where
     -- `named` is the number of members
-    pub held_count : r.named ≡ count 65536 (read words all_offsets).has
-    held_count = h.named ∙ (counted_is name text).is ∙ count_ext 65536 (has_line (file_of name text)) (read words all_offsets).has (λ p l. sym (h.members p l))
+    pub held_count : r.tally.named ≡ count 65536 (read words all_offsets).has
+    held_count = h.counts.named ∙ (counted_is name text).is ∙ count_ext 65536 (has_line (file_of name text)) (read words all_offsets).has (λ p l. sym (h.members p l))
 
     -- with no bad line the members are the offsets that the text's lines name, all of them
-    pub held_names : r.bads ≡ 0 → (p : ℕ) → p < 65536 → (read words all_offsets).has p ≡ some_entry (is_offset p) (entries_of text)
-    held_names z p l = h.members p l ∙ good-names name text (sym h.bads ∙ z) p
+    pub held_names : r.tally.bads ≡ 0 → (p : ℕ) → p < 65536 → (read words all_offsets).has p ≡ some_entry (is_offset p) (entries_of text)
+    held_names z p l = h.members p l ∙ good-names name text (sym h.counts.bads ∙ z) p
 
     -- and as many as a last line says
-    pub held_says : r.bads ≡ 0 → (n : ℕ) → some_entry (says_count n) (entries_of text) ≡ true → count 65536 (read words all_offsets).has ≡ n
-    held_says z n s = sym held_count ∙ h.named ∙ good_says text n (sym h.bads ∙ z) s
+    pub held_says : r.tally.bads ≡ 0 → (n : ℕ) → some_entry (says_count n) (entries_of text) ≡ true → count 65536 (read words all_offsets).has ≡ n
+    held_says z n s = sym held_count ∙ h.counts.named ∙ good_says text n (sym h.counts.bads ∙ z) s
 
     -- a report that ends before its buffer does is there whole
-    pub held_report : r.report < length report → take r.report report ≡ (file_of name text).report
-    held_report l = h.reported ∙ take_all r.report (file_of name text).report (omega (arith, h.report_end))
+    pub held_report : r.tally.report < length report → take r.tally.report report ≡ (file_of name text).report
+    held_report l = h.counts.reported ∙ take_all r.tally.report (file_of name text).report (omega (arith, h.counts.report_end))
 
     -- and so is any in a buffer of 40 messages
-    pub held_room : 40 * room name ≤ length report → take r.report report ≡ (file_of name text).report
-    held_room l = h.reported ∙ take_all r.report (file_of name text).report (let n = report_room name text in omega (arith, h.report_end))
+    pub held_room : 40 * room name ≤ length report → take r.tally.report report ≡ (file_of name text).report
+    held_room l = h.counts.reported ∙ take_all r.tally.report (file_of name text).report (let n = report_room name text in omega (arith, h.counts.report_end))

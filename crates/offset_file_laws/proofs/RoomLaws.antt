@@ -10,9 +10,11 @@ use lib.Dec.{leb, ltb, eqb}
 use lib.ListN.{length, take, length-append, length-take, length-map}
 use Rattle.byte_texts.specs.Ascii.{ascii}
 use Rattle.byte_texts.specs.Texts.{visible, dots, shown_text}
-use Rattle.offset_lines.specs.Lines.{line_of}
-use Rattle.offset_lines.specs.declared.entry.Entry.{Entry}
-use Rattle.offset_lines.specs.declared.entry.Entry.TheVariants.{Blank, Offset, Says, NotANumber, TooLarge, CarriageReturn, TooLong, Damaged}
+use Rattle.offset_lines.specs.Lines.{line_of, fault_text}
+use Rattle.offset_lines.proofs.LineLaws.{fault_short}
+use Rattle.offset_file_laws.specs.Entries.{LineEntry}
+use Rattle.std.specs.Prelude.{Ok, Err}
+use Rattle.offset_lines.specs.declared.entry.Entry.TheVariants.{Blank, Item, Says}
 use Rattle.text_lines.specs.Texts.{more}
 use Rattle.offset_files.specs.Files.{File, no_lines, blank_line, bad_line, new_offset, second_naming, entry_line, file_of}
 use Rattle.offset_file_laws.specs.Entries.{lines_of, bodies_of}
@@ -106,16 +108,12 @@ module _ (name : List ℕ) where
     told_fits n true = record { fits = blank_fits.fits }
     told_fits n false = record { fits = (bad_fits (wrong_count n f.named) (count_short n f.named)).fits }
 
-    entry_fits : (e : Entry) → Fits (entry_line name body e f)
-    unfolding entry_line ascii
-    entry_fits Blank = blank_fits
-    entry_fits (Offset q) = subst Fits (sym (as_chosen name body f q)) (chosen_fits q f.said (eqb (f.first q) 0) (f.again q))
-    entry_fits (Says n) = subst Fits (sym (as_told name body f n)) (told_fits n (eqb n f.named))
-    entry_fits NotANumber = bad_fits (ascii "not a number") (omega arith)
-    entry_fits TooLarge = bad_fits (ascii "65536 or above") (omega arith)
-    entry_fits CarriageReturn = bad_fits (ascii "a carriage return inside the line") (omega arith)
-    entry_fits TooLong = bad_fits (ascii "longer than 2048 bytes") (omega arith)
-    entry_fits Damaged = bad_fits (ascii "a damaged last line of a list") (omega arith)
+    entry_fits : (e : LineEntry) → Fits (entry_line name body e f)
+    unfolding entry_line
+    entry_fits (Ok Blank) = blank_fits
+    entry_fits (Ok (Item q)) = subst Fits (sym (as_chosen name body f q)) (chosen_fits q f.said (eqb (f.first q) 0) (f.again q))
+    entry_fits (Ok (Says n)) = subst Fits (sym (as_told name body f n)) (told_fits n (eqb n f.named))
+    entry_fits (Err fault) = bad_fits (fault_text fault) (fault_short fault)
 
   fits_from : (bodies : List (List ℕ)) (f : File) → Fits f → Fits (entered name f bodies)
   unfolding entered

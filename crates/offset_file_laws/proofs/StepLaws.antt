@@ -6,8 +6,9 @@ use Prim.Native.Nat.{ℕ}
 use native.Mathlib.Omega.{arith}
 use borrow.Author.Tests.{eqb-true}
 use lib.Dec.{eqb}
-use Rattle.offset_lines.specs.declared.entry.Entry.{Entry}
-use Rattle.offset_lines.specs.declared.entry.Entry.TheVariants.{Blank, Offset, Says, NotANumber, TooLarge, CarriageReturn, TooLong, Damaged}
+use Rattle.offset_file_laws.specs.Entries.{LineEntry}
+use Rattle.std.specs.Prelude.{Ok, Err}
+use Rattle.offset_lines.specs.declared.entry.Entry.TheVariants.{Blank, Item, Says}
 use Rattle.text_lines.specs.Texts.{more}
 use Rattle.offset_files.specs.Files.{File, blank_line, bad_line, new_offset, second_naming, offset_line, said_line, entry_line}
 use Rattle.offset_file_laws.specs.Entries.{is_offset, is_last}
@@ -47,16 +48,12 @@ module _ (name body : List ℕ) (f : File) where
   told-lines n true = refl
   told-lines n false = refl
 
-  pub entry_lines : (e : Entry) → (entry_line name body e f).lines ≡ more f.lines
+  pub entry_lines : (e : LineEntry) → (entry_line name body e f).lines ≡ more f.lines
   unfolding entry_line bad_line blank_line
-  entry_lines Blank = refl
-  entry_lines (Offset q) = ap (λ (g : File). g.lines) (as_chosen q) ∙ chosen_lines q f.said (eqb (f.first q) 0) (f.again q)
-  entry_lines (Says n) = ap (λ (g : File). g.lines) (as_told n) ∙ told-lines n (eqb n f.named)
-  entry_lines NotANumber = refl
-  entry_lines TooLarge = refl
-  entry_lines CarriageReturn = refl
-  entry_lines TooLong = refl
-  entry_lines Damaged = refl
+  entry_lines (Ok Blank) = refl
+  entry_lines (Ok (Item q)) = ap (λ (g : File). g.lines) (as_chosen q) ∙ chosen_lines q f.said (eqb (f.first q) 0) (f.again q)
+  entry_lines (Ok (Says n)) = ap (λ (g : File). g.lines) (as_told n) ∙ told-lines n (eqb n f.named)
+  entry_lines (Err fault) = refl
 
   -- ---- whether a last line of a list is among them
 
@@ -75,16 +72,12 @@ module _ (name body : List ℕ) (f : File) where
   or-true true = refl
   or-true false = refl
 
-  pub entry_said : (e : Entry) → (entry_line name body e f).said ≡ (f.said || is_last e)
+  pub entry_said : (e : LineEntry) → (entry_line name body e f).said ≡ (f.said || is_last e)
   unfolding entry_line bad_line blank_line told is_last
-  entry_said Blank = or-false f.said
-  entry_said (Offset q) = ap (λ (g : File). g.said) (as_chosen q) ∙ chosen_said q f.said (eqb (f.first q) 0) (f.again q) ∙ or-false f.said
-  entry_said (Says n) = ap (λ (g : File). g.said) (as_told n) ∙ or-true f.said
-  entry_said NotANumber = or-false f.said
-  entry_said TooLarge = or-false f.said
-  entry_said CarriageReturn = or-false f.said
-  entry_said TooLong = or-false f.said
-  entry_said Damaged = or-false f.said
+  entry_said (Ok Blank) = or-false f.said
+  entry_said (Ok (Item q)) = ap (λ (g : File). g.said) (as_chosen q) ∙ chosen_said q f.said (eqb (f.first q) 0) (f.again q) ∙ or-false f.said
+  entry_said (Ok (Says n)) = ap (λ (g : File). g.said) (as_told n) ∙ or-true f.said
+  entry_said (Err fault) = or-false f.said
 
   -- ---- the first line of an offset
 
@@ -116,15 +109,11 @@ module _ (name body : List ℕ) (f : File) where
           and-true false = refl
       go false e = and-false (not f.said) (eqb (f.first q) 0)
 
-  pub entry_first : (p : ℕ) (e : Entry) → (entry_line name body e f).first p ≡ cond (is_offset p e && (not f.said && eqb (f.first p) 0)) (more f.lines) (f.first p)
+  pub entry_first : (p : ℕ) (e : LineEntry) → (entry_line name body e f).first p ≡ cond (is_offset p e && (not f.said && eqb (f.first p) 0)) (more f.lines) (f.first p)
   unfolding entry_line bad_line blank_line is_offset
-  entry_first p Blank = refl
-  entry_first p (Offset q) =
+  entry_first p (Ok Blank) = refl
+  entry_first p (Ok (Item q)) =
       ap (λ (g : File). g.first p) (as_chosen q) ∙ chosen_first p q f.said (eqb (f.first q) 0) (f.again q)
       ∙ ap (λ (t : Bool). cond t (more f.lines) (f.first p)) (same_offset p q)
-  entry_first p (Says n) = ap (λ (g : File). g.first p) (as_told n) ∙ ap (λ (h : ℕ → ℕ). h p) (told-first n (eqb n f.named))
-  entry_first p NotANumber = refl
-  entry_first p TooLarge = refl
-  entry_first p CarriageReturn = refl
-  entry_first p TooLong = refl
-  entry_first p Damaged = refl
+  entry_first p (Ok (Says n)) = ap (λ (g : File). g.first p) (as_told n) ∙ ap (λ (h : ℕ → ℕ). h p) (told-first n (eqb n f.named))
+  entry_first p (Err fault) = refl

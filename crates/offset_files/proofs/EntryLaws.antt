@@ -8,12 +8,10 @@ use borrow.Author.Tests.{eq-eqb, ne_eqb}
 use lib.Dec.{eqb}
 use lib.ListN.{get_or}
 use Rattle.byte_texts.specs.Ascii.{ascii}
-use Rattle.offset_files.specs.Files.{File, blank_line, bad_line, new_offset, second_naming, offset_line, said_line}
+use Rattle.offset_files.specs.Files.{File, blank_line, bad_line, new_offset, second_naming, offset_line}
 use Rattle.offset_files.specs.Holds.{HoldsFile}
-use Rattle.offset_files.specs.Messages.{wrong_count}
 use Rattle.offset_files.specs.declared.reading.Reading.{Reading}
 use Rattle.offset_files.proofs.TableLaws.{table-first, table_again}
-use Rattle.offset_files.proofs.HoldsLaws.{with_lines}
 
 -- ---- a word of the table
 
@@ -48,48 +46,30 @@ module _ {f : File} {r : Reading} {words table report : List ℕ} (h : HoldsFile
   named-once o = again_no (f.again offset) (λ z. o (again_is ∙ z))
 
   module _ (name full : List ℕ) {s : Reading} {words' table' report' : List ℕ} where
-    choose : {said none again : Bool} → r.said ≡ said → eqb (f.first offset) 0 ≡ none → f.again offset ≡ again → HoldsFile (chosen name full offset f said none again) s words' table' report'
+    choose : {said none again : Bool} → r.tally.said ≡ said → eqb (f.first offset) 0 ≡ none → f.again offset ≡ again → HoldsFile (chosen name full offset f said none again) s words' table' report'
         → HoldsFile (offset_line name full offset f) s words' table' report'
     unfolding offset_line chosen
     choose {said} {none} {again} a b c g =
         subst (λ (x : File). HoldsFile x s words' table' report')
-        (ap (λ (t : Bool). chosen name full offset f t none again) (sym a ∙ h.said) ∙ ap (λ (t : Bool). chosen name full offset f f.said t again) (sym b)
+        (ap (λ (t : Bool). chosen name full offset f t none again) (sym a ∙ h.counts.said) ∙ ap (λ (t : Bool). chosen name full offset f f.said t again) (sym b)
         ∙ ap (chosen name full offset f f.said (eqb (f.first offset) 0)) (sym c)) g
 
-    pub offset_said : r.said ≡ true → HoldsFile (bad_line name full (ascii "an offset behind the last line of a list") f) s words' table' report'
+    pub offset_said : r.tally.said ≡ true → HoldsFile (bad_line name full (ascii "an offset behind the last line of a list") f) s words' table' report'
         → HoldsFile (offset_line name full offset f) s words' table' report'
     unfolding chosen
     offset_said e g = choose e refl refl g
 
-    pub offset_new : r.said ≡ false → get_or table offset 0 < 2 → HoldsFile (new_offset offset f) s words' table' report'
+    pub offset_new : r.tally.said ≡ false → get_or table offset 0 < 2 → HoldsFile (new_offset offset f) s words' table' report'
         → HoldsFile (offset_line name full offset f) s words' table' report'
     unfolding chosen
     offset_new e l g = choose e (eq-eqb (f.first offset) 0 (first-none l)) refl g
 
-    pub offset_third : r.said ≡ false → 2 ≤ get_or table offset 0 → get_or table offset 0 % 2 ≡ 1 → HoldsFile (blank_line f) s words' table' report'
+    pub offset_third : r.tally.said ≡ false → 2 ≤ get_or table offset 0 → get_or table offset 0 % 2 ≡ 1 → HoldsFile (blank_line f) s words' table' report'
         → HoldsFile (offset_line name full offset f) s words' table' report'
     unfolding chosen
     offset_third e l o g = choose e (ne_eqb (f.first offset) 0 (first_some l)) (again_yes (f.again offset) (sym again_is ∙ o)) g
 
-    pub offset_second : r.said ≡ false → 2 ≤ get_or table offset 0 → (get_or table offset 0 % 2 ≡ 1 → ⊥) → HoldsFile (second_naming name offset f) s words' table' report'
+    pub offset_second : r.tally.said ≡ false → 2 ≤ get_or table offset 0 → (get_or table offset 0 % 2 ≡ 1 → ⊥) → HoldsFile (second_naming name offset f) s words' table' report'
         → HoldsFile (offset_line name full offset f) s words' table' report'
     unfolding chosen
     offset_second e l o g = choose e (ne_eqb (f.first offset) 0 (first_some l)) (named-once o) g
-
--- ---- the last line of a list
-
-module _ {f : File} {r : Reading} {words table report : List ℕ} (h : HoldsFile f r words table report) (name full : List ℕ) (says : ℕ)
-    {s : Reading} {words' table' report' : List ℕ} where
-  pub said_right : says ≡ r.named → HoldsFile (blank_line f) s words' table' report'
-      → HoldsFile (said_line name full says f)
-      (record { length = s.length; lines = s.lines; named = s.named; said = true; bads = s.bads; repeats = s.repeats; report = s.report })
-      words' table' report'
-  unfolding said_line
-  said_right e g = rw (eq-eqb says f.named (e ∙ h.named)) (with_lines g s.length g.lines refl)
-
-  pub said_wrong : (says ≡ r.named → ⊥) → HoldsFile (bad_line name full (wrong_count says f.named) f) s words' table' report'
-      → HoldsFile (said_line name full says f)
-      (record { length = s.length; lines = s.lines; named = s.named; said = true; bads = s.bads; repeats = s.repeats; report = s.report })
-      words' table' report'
-  unfolding said_line
-  said_wrong n g = rw (ne_eqb says f.named (λ e. n (e ∙ sym h.named))) (with_lines g s.length g.lines refl)

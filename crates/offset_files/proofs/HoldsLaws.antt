@@ -12,104 +12,81 @@ use Rattle.sets.specs.Members.{read}
 use Rattle.sets.specs.Outcomes.{Outcome}
 use Rattle.edits.specs.Rules.{insert_rule}
 use Rattle.text_lines.specs.Texts.{more}
-use Rattle.text_lines.specs.Messages.{bad_text}
-use Rattle.offset_files.specs.Files.{File, blank_line, bad_line, new_offset, second_naming}
-use Rattle.offset_files.specs.Holds.{HoldsFile, table_word, all_offsets}
-use Rattle.offset_files.specs.Messages.{repeat_text}
+use Rattle.text_lines.specs.Tallies.{Counts, HoldsCounts, blank_counts, bad_counts, said_counts}
+use Rattle.byte_texts.specs.Ascii.{ascii}
+use Rattle.text_lines.specs.Messages.{wrong_text}
+use Rattle.text_lines.specs.declared.tally.Tally.{Tally}
+use Rattle.text_lines.proofs.TallyLaws.{counts_report}
+use Rattle.offset_files.specs.Files.{File, blank_line, bad_line, said_line, new_offset, second_naming}
+use Rattle.offset_files.specs.Holds.{HoldsFile, counts_of, table_word, all_offsets}
+use Rattle.offset_files.specs.Messages.{repeat_text, wrong_count}
 use Rattle.offset_files.specs.declared.reading.Reading.{Reading}
 use Rattle.text_lines.proofs.ReportLaws.{Reported, reported_first, reported_enough}
 use Rattle.offset_files.proofs.TableLaws.{entries_new, entries_again, inserted_long, inserted_has}
 
--- what is held of a file says nothing of a line that is not ended; and more lines, and whether a last line of a list is among them, change nothing else
-pub with_lines : {f : File} {r : Reading} {words table report : List ℕ} → HoldsFile f r words table report
-    → (size : ℕ) {lines k : ℕ} {said t : Bool} → lines ≡ k → said ≡ t
-    → HoldsFile (record { lines = k; first = f.first; again = f.again; named = f.named; said = t; bads = f.bads; repeats = f.repeats; report = f.report })
-    (record { length = size; lines = lines; named = r.named; said = said; bads = r.bads; repeats = r.repeats; report = r.report })
-    words table report
-with_lines h size e d = record {
-  lines = e;
-  named = h.named;
-  said = d;
-  bads = h.bads;
-  repeats = h.repeats;
-  words_long = h.words_long;
-  members = h.members;
-  table_long = h.table_long;
-  entries = h.entries;
-  report_end = h.report_end;
-  reported = h.reported;
-}
+-- other counts of the same offsets
+pub with_counts : {f : File} {r : Reading} {words table report : List ℕ} → HoldsFile f r words table report
+    → (k : Counts) {tally : Tally} {out : List ℕ} → HoldsCounts k tally out
+    → HoldsFile (record { lines = k.lines; first = f.first; again = f.again; named = k.named; said = k.said; bads = k.bads; repeats = f.repeats; report = k.report })
+    (record { tally = tally; repeats = r.repeats }) words table out
+with_counts h k c =
+    record { counts = c; repeats = h.repeats; words_long = h.words_long; members = h.members; table_long = h.table_long; entries = h.entries }
+
+-- behind the last line of a list
+abbrev closed : File → File
+closed g = record { lines = g.lines; first = g.first; again = g.again; named = g.named; said = true; bads = g.bads; repeats = g.repeats; report = g.report }
+
+abbrev shut : Counts → Counts
+shut g = record { lines = g.lines; named = g.named; said = true; bads = g.bads; report = g.report }
 
 module _ {f : File} {r : Reading} {words table report : List ℕ} (h : HoldsFile f r words table report) where
-  held_report : Reported f.report r.report report
-  held_report = record { report_end = h.report_end; reported = h.reported }
+  -- the last line of a list
+  pub said_holds : (name full : List ℕ) (says : ℕ) {tally : Tally} {out : List ℕ} → HoldsCounts (said_counts name full says (ascii " offsets and names ") (counts_of f)) tally out
+      → HoldsFile (said_line name full says f) (record { tally = tally; repeats = r.repeats }) words table out
+  unfolding said_line blank_line bad_line said_counts blank_counts bad_counts wrong_count wrong_text
+  said_holds name full says {tally} {out} c = go (eqb says f.named) c
+    where
+      go : (t : Bool)
+          → HoldsCounts (shut (cond t (blank_counts (counts_of f)) (bad_counts name full (wrong_text says (ascii " offsets and names ") f.named) (counts_of f)))) tally out
+          → HoldsFile (closed (cond t (blank_line f) (bad_line name full (wrong_count says f.named) f))) (record { tally = tally; repeats = r.repeats }) words table out
+      go true c = with_counts h (shut (blank_counts (counts_of f))) c
+      go false c = with_counts h (shut (bad_counts name full (wrong_text says (ascii " offsets and names ") f.named) (counts_of f))) c
 
-  pub blank_holds : (lines : ℕ) → lines ≡ more r.lines
-      → HoldsFile (blank_line f)
-      (record { length = r.length; lines = lines; named = r.named; said = r.said; bads = r.bads; repeats = r.repeats; report = r.report })
-      words table report
-  unfolding blank_line
-  blank_holds lines e = with_lines h r.length (e ∙ ap more h.lines) h.said
+  held_report : Reported f.report r.tally.report report
+  held_report = counts_report h.counts
 
-  -- a bad line, with what is said of it
-  pub bad_holds : (name full reason : List ℕ) (lines bads end : ℕ) (out : List ℕ) → lines ≡ more r.lines → bads ≡ more r.bads
-      → Reported (f.report ++ cond (ltb f.bads 20) (bad_text name (more f.lines) reason full) []) end out
-      → HoldsFile (bad_line name full reason f)
-      (record { length = r.length; lines = lines; named = r.named; said = r.said; bads = bads; repeats = r.repeats; report = end })
-      words table out
-  unfolding bad_line
-  bad_holds name full reason lines bads end out e b w = record {
-    lines = e ∙ ap more h.lines;
-    named = h.named;
-    said = h.said;
-    bads = b ∙ ap more h.bads;
-    repeats = h.repeats;
-    words_long = h.words_long;
-    members = h.members;
-    table_long = h.table_long;
-    entries = h.entries;
-    report_end = w.report_end;
-    reported = w.reported;
-  }
-
-  -- it is among the first 20
-  pub bad_said : (text : List ℕ) {out : List ℕ} {end : ℕ} → r.bads < 20 → record { end = end; out = out } ≡ written report r.report text
-      → Reported (f.report ++ cond (ltb f.bads 20) text []) end out
-  bad_said text l e = reported_first f.report text report r.report f.bads held_report (rw h.bads at l) e
-
-  pub bad_unsaid : (text : List ℕ) → 20 ≤ r.bads → Reported (f.report ++ cond (ltb f.bads 20) text []) r.report report
-  bad_unsaid text g = reported_enough f.report text report r.report f.bads held_report (rw h.bads at g)
-
-  pub repeat_said : (text : List ℕ) {out : List ℕ} {end : ℕ} → r.repeats < 20 → record { end = end; out = out } ≡ written report r.report text
+  pub repeat_said : (text : List ℕ) {out : List ℕ} {end : ℕ} → r.repeats < 20 → record { end = end; out = out } ≡ written report r.tally.report text
       → Reported (f.report ++ cond (ltb f.repeats 20) text []) end out
-  repeat_said text l e = reported_first f.report text report r.report f.repeats held_report (rw h.repeats at l) e
+  repeat_said text l e = reported_first f.report text report r.tally.report f.repeats held_report (rw h.repeats at l) e
 
-  pub repeat_unsaid : (text : List ℕ) → 20 ≤ r.repeats → Reported (f.report ++ cond (ltb f.repeats 20) text []) r.report report
-  repeat_unsaid text g = reported_enough f.report text report r.report f.repeats held_report (rw h.repeats at g)
+  pub repeat_unsaid : (text : List ℕ) → 20 ≤ r.repeats → Reported (f.report ++ cond (ltb f.repeats 20) text []) r.tally.report report
+  repeat_unsaid text g = reported_enough f.report text report r.tally.report f.repeats held_report (rw h.repeats at g)
 
   -- an offset that one earlier line names
-  pub second_holds : (name : List ℕ) (offset : ℕ) → offset < 65536 → (lines repeats end : ℕ) (out : List ℕ) → lines ≡ more r.lines → repeats ≡ more r.repeats
+  pub second_holds : (name : List ℕ) (offset : ℕ) → offset < 65536 → (lines repeats end : ℕ) (out : List ℕ) → lines ≡ more r.tally.lines → repeats ≡ more r.repeats
       → Reported (f.report ++ cond (ltb f.repeats 20) (repeat_text name (more f.lines) offset (f.first offset)) []) end out
       → HoldsFile (second_naming name offset f)
-      (record { length = r.length; lines = lines; named = r.named; said = r.said; bads = r.bads; repeats = repeats; report = end })
+      (record { tally = record { lines = lines; named = r.tally.named; said = r.tally.said; bads = r.tally.bads; report = end }; repeats = repeats })
       words (set_at table offset (get_or table offset 0 / 2 * 2 + 1)) out
   unfolding second_naming
   second_holds name offset l lines repeats end out e b w = record {
-    lines = e ∙ ap more h.lines;
-    named = h.named;
-    said = h.said;
-    bads = h.bads;
+    counts = record {
+      lines = e ∙ ap more h.counts.lines;
+      named = h.counts.named;
+      said = h.counts.said;
+      bads = h.counts.bads;
+      report_end = w.report_end;
+      reported = w.reported;
+    };
     repeats = b ∙ ap more h.repeats;
     words_long = h.words_long;
     members = h.members;
     table_long = length-set table offset _ ∙ h.table_long;
     entries = entries_again table f.first f.again offset (omega (arith, h.table_long)) h.entries l;
-    report_end = w.report_end;
-    reported = w.reported;
   }
 
   -- an offset that no earlier line names
-  module _ (offset : ℕ) (l : offset < 65536) {lines named : ℕ} (e : lines ≡ more r.lines) (n : named ≡ more r.named)
+  module _ (offset : ℕ) (l : offset < 65536) {lines named : ℕ} (e : lines ≡ more r.tally.lines) (n : named ≡ more r.tally.named)
       {o : Outcome} (i : o ≡ insert_rule all_offsets words offset) where
     member_now : (p : ℕ) → p < 65536
         → (read o.words all_offsets).has p ≡ not (eqb (cond (eqb p offset) (more f.lines) (f.first p)) 0)
@@ -123,20 +100,22 @@ module _ {f : File} {r : Reading} {words table report : List ℕ} (h : HoldsFile
         go false q = rw (ne_eqb offset p (λ z. eqb-false p offset q (sym z))) (h.members p b)
 
     pub new_holds : HoldsFile (new_offset offset f)
-        (record { length = r.length; lines = lines; named = named; said = r.said; bads = r.bads; repeats = r.repeats; report = r.report })
+        (record { tally = record { lines = lines; named = named; said = r.tally.said; bads = r.tally.bads; report = r.tally.report }; repeats = r.repeats })
         o.words (set_at table offset (lines * 2 + get_or table offset 0 % 2)) report
     unfolding new_offset
     new_holds = record {
-      lines = e ∙ ap more h.lines;
-      named = n ∙ ap more h.named;
-      said = h.said;
-      bads = h.bads;
+      counts = record {
+        lines = e ∙ ap more h.counts.lines;
+        named = n ∙ ap more h.counts.named;
+        said = h.counts.said;
+        bads = h.counts.bads;
+        report_end = h.counts.report_end;
+        reported = h.counts.reported;
+      };
       repeats = h.repeats;
       words_long = inserted_long words h.words_long offset l i;
       members = member_now;
       table_long = length-set table offset _ ∙ h.table_long;
       entries = λ p b. entries_new table f.first f.again offset (omega (arith, h.table_long)) h.entries l lines p b
-          ∙ ap (λ (k : ℕ). table_word (cond (eqb p offset) k (f.first p)) (f.again p)) (e ∙ ap more h.lines);
-      report_end = h.report_end;
-      reported = h.reported;
+          ∙ ap (λ (k : ℕ). table_word (cond (eqb p offset) k (f.first p)) (f.again p)) (e ∙ ap more h.counts.lines);
     }

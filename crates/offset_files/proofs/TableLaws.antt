@@ -6,12 +6,11 @@ use Prim.Native.Nat.{ℕ, ◌+◌, ◌*◌, ◌/◌, ◌%◌, ◌≤◌, ◌<◌
 use native.Mathlib.Omega.{arith}
 use borrow.Author.Tests.{eq-eqb, ne_eqb, eqb-true, eqb-false}
 use lib.Dec.{eqb, lit≤}
-use lib.ListN.{length, get_or, set as set_at}
+use lib.ListN.{length, get_or, replicate, set as set_at}
 use lib.Seq.{get_or-set_same, get_or-set_other}
 use Rattle.word_bits.specs.Digits.{digit}
 use Rattle.word_bits.proofs.Digits.{digit_of_zero}
-use Rattle.blocks.specs.Sweeps.{swept}
-use Rattle.blocks.proofs.BlockLaws.{zeroed, zeroed_is, swept_in}
+use Rattle.std.proofs.lemmas.List.{get_or-replicate}
 use Rattle.sets.specs.Members.{Members, words_of, bit_of, read, write, changed}
 use Rattle.sets.specs.Outcomes.{Outcome, given}
 use Rattle.sets.proofs.QuestionLaws.{Valid, valid_yes, position_yes}
@@ -98,9 +97,8 @@ module _ (words : List ℕ) (long : length words ≡ 1024) where
 
 -- ---- cleared words
 
-pub zero_at : (words : List ℕ) {after : List ℕ} → after ≡ swept 0 (length words) zeroed words → (k : ℕ) → k < length words → get_or after k 0 ≡ 0
-zero_at words e k h =
-    ap (λ (ws : List ℕ). get_or ws k 0) e ∙ swept_in 0 (length words) zeroed words k h (omega arith) h ∙ zeroed_is k (get_or words k 0)
+pub zero_at : (words : List ℕ) {after : List ℕ} → after ≡ replicate (length words) 0 → (k : ℕ) → k < length words → get_or after k 0 ≡ 0
+zero_at words e k h = ap (λ (ws : List ℕ). get_or ws k 0) e ∙ get_or-replicate (length words) k 0 0 h
 
 pub zero_members : (words : List ℕ) → length words ≡ 1024 → ((k : ℕ) → k < length words → get_or words k 0 ≡ 0)
     → (p : ℕ) → p < 65536 → (read words all_offsets).has p ≡ false

@@ -1,12 +1,13 @@
 -- What a file of offsets is, from its bytes: line by line from the top.
-use Rattle.std.specs.Prelude.{Bool, true, false, cond, List, [], ◌++◌, ℕ, eqb, ltb}
+use Rattle.std.specs.Prelude.{Bool, true, false, cond, List, [], ◌++◌, ℕ, eqb, ltb, Result, Ok, Err}
 use Rattle.byte_texts.specs.Ascii.{ascii}
 use Rattle.text_lines.specs.Texts as Texts
 use Rattle.text_lines.specs.Texts.{more, body_of}
 use Rattle.text_lines.specs.Messages.{bad_text}
-use Rattle.offset_lines.specs.Lines.{line_of}
+use Rattle.offset_lines.specs.Lines.{line_of, fault_text}
 use Rattle.offset_lines.specs.declared.entry.Entry.{Entry}
-use Rattle.offset_lines.specs.declared.entry.Entry.TheVariants.{Blank, Offset, Says, NotANumber, TooLarge, CarriageReturn, TooLong, Damaged}
+use Rattle.offset_lines.specs.declared.entry.Entry.TheVariants.{Blank, Item, Says}
+use Rattle.offset_lines.specs.declared.entry.Fault.{Fault}
 use Rattle.offset_files.specs.Messages.{repeat_text, wrong_count}
 
 -- what the lines so far say: how many they are; the line that names an offset first, 0 for none, and whether another does; how many offsets are named;
@@ -79,15 +80,11 @@ said_line name body n f =
     let g = cond (eqb n f.named) (blank_line f) (bad_line name body (wrong_count n f.named) f) in
     record { lines = g.lines; first = g.first; again = g.again; named = g.named; said = true; bads = g.bads; repeats = g.repeats; report = g.report }
 
-unfoldable pub entry_line : List ℕ → List ℕ → Entry → File → File
-entry_line name body Blank f = blank_line f
-entry_line name body (Offset p) f = offset_line name body p f
-entry_line name body (Says n) f = said_line name body n f
-entry_line name body NotANumber f = bad_line name body (ascii "not a number") f
-entry_line name body TooLarge f = bad_line name body (ascii "65536 or above") f
-entry_line name body CarriageReturn f = bad_line name body (ascii "a carriage return inside the line") f
-entry_line name body TooLong f = bad_line name body (ascii "longer than 2048 bytes") f
-entry_line name body Damaged f = bad_line name body (ascii "a damaged last line of a list") f
+unfoldable pub entry_line : List ℕ → List ℕ → Result (Entry ℕ) Fault → File → File
+entry_line name body (Ok Blank) f = blank_line f
+entry_line name body (Ok (Item p)) f = offset_line name body p f
+entry_line name body (Ok (Says n)) f = said_line name body n f
+entry_line name body (Err fault) f = bad_line name body (fault_text fault) f
 
 -- one line more
 unfoldable pub take_line : List ℕ → List ℕ → File → File

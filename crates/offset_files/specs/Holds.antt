@@ -1,9 +1,9 @@
 -- What a reader holds of a text: its record and the lent buffers.
-use Rattle.std.specs.Prelude.{◌≡◌, Bool, cond, not, List, ℕ, ◌+◌, ◌*◌, ◌<◌, min, eqb, length, take, get_or}
+use Rattle.std.specs.Prelude.{◌≡◌, Bool, cond, not, List, ℕ, ◌+◌, ◌*◌, ◌<◌, eqb, length, get_or}
 use Rattle.sets.specs.Members.{read}
 use Rattle.sets.specs.declared.fixed_bit_set.FixedBitSet.{FixedBitSet}
-use Rattle.text_lines.specs.Rests.{HoldsRest}
-use Rattle.offset_files.specs.Files.{File, Text}
+use Rattle.text_lines.specs.Tallies.{Counts, HoldsCounts}
+use Rattle.offset_files.specs.Files.{File}
 use Rattle.offset_files.specs.declared.reading.Reading.{Reading}
 
 -- a word of the table of an offset: its first line doubled, one more where it is named again
@@ -14,21 +14,16 @@ table_word first again = first * 2 + cond again 1 0
 abbrev pub all_offsets : FixedBitSet
 all_offsets = record { length = 65536 }
 
+-- what is counted of the lines of a file
+abbrev pub counts_of : File → Counts
+counts_of f = record { lines = f.lines; named = f.named; said = f.said; bads = f.bads; report = f.report }
+
 pub record HoldsFile (f : File) (r : Reading) (words table report : List ℕ) : Type 0 where
-  pub lines : r.lines ≡ f.lines
-  pub named : r.named ≡ f.named
-  pub said : r.said ≡ f.said
-  pub bads : r.bads ≡ f.bads
+  -- the report stands at the start of its buffer, as far as that has room
+  pub counts : HoldsCounts (counts_of f) r.tally report
   pub repeats : r.repeats ≡ f.repeats
   -- the set has exactly the offsets that are named
   pub words_long : length words ≡ 1024
   pub members : (p : ℕ) → p < 65536 → (read words all_offsets).has p ≡ not (eqb (f.first p) 0)
   pub table_long : length table ≡ 65536
   pub entries : (p : ℕ) → p < 65536 → get_or table p 0 ≡ table_word (f.first p) (f.again p)
-  -- the report stands at the start of its buffer, as far as that has room
-  pub report_end : r.report ≡ min (length report) (length f.report)
-  pub reported : take r.report report ≡ take r.report f.report
-
-pub record HoldsText (t : Text) (r : Reading) (line words table report : List ℕ) : Type 0 where
-  pub file : HoldsFile t.file r words table report
-  pub rest : HoldsRest t.rest r.length line

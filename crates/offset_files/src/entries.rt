@@ -1,23 +1,25 @@
 ghost use Rattle.std.specs.Prelude.{◌≡◌, false, List, ℕ, ◌<◌};
-ghost use Rattle.byte_texts.specs.Texts.{shown_text};
+ghost use Rattle.byte_texts.specs.Texts.{written, shown_text};
 ghost use Rattle.offset_files.specs.Files.{File, blank_line, bad_line, new_offset, second_naming, offset_line, said_line};
 ghost use Rattle.offset_files.specs.Holds.{HoldsFile};
-ghost use Rattle.offset_files.specs.Messages.{wrong_count};
+ghost use Rattle.offset_files.specs.Messages.{repeat_text};
 
-use crate::messages::{append_repeat, append_wrong_count};
+use crate::messages::append_repeat;
 use crate::reading::Reading;
 use blocks::block;
+use byte_texts::Text;
 use edits::insert;
 use sets::FixedBitSet;
-use text_lines::{append_bad, more};
+use text_lines::{Tally, more};
 
 // A line with nothing to say.
 pub fn blank_line(reading: Reading) -> Reading
     ensures { (f : File) (words table report : List ℕ) → HoldsFile f reading words table report → HoldsFile (blank_line f) result words table report }
 {
-    let mut next = reading;
-    next.lines = more(reading.lines);
-    next
+    Reading {
+        tally: reading.tally.blank_line(),
+        ..reading
+    }
 }
 
 // A line that may not stand there. Asks nothing, as those below: they are for the reads, which start with buffers that hold an empty file.
@@ -32,30 +34,10 @@ pub fn bad_line(
         → HoldsFile f reading words table report.old
         → HoldsFile (bad_line name.now full reason.now f) result words table report.new }
 {
-    let mut next = reading;
-    next.lines = more(reading.lines);
-    next.bads = more(reading.bads);
-    if reading.bads < 20 {
-        next.report = append_bad(report, reading.report, name, next.lines, reason, body);
+    Reading {
+        tally: reading.tally.bad_line(name, body, reason, report),
+        ..reading
     }
-    next
-}
-
-// A last line of a list with another number than it names offsets.
-fn wrong_count_line(
-    reading: Reading,
-    name: &[u8],
-    body: &[u8],
-    says: usize,
-    report: &mut [u8],
-) -> Reading
-    ensures { (f : File) (full words table : List ℕ) → shown_text body.now ≡ shown_text full
-        → HoldsFile f reading words table report.old
-        → HoldsFile (bad_line name.now full (wrong_count says f.named) f) result words table report.new }
-{
-    let mut reason = [0u8; 64];
-    let end = append_wrong_count(&mut reason, 0, says, reading.named);
-    bad_line(reading, name, body, &reason[..end], report)
 }
 
 // The last line of a list.
@@ -70,13 +52,12 @@ pub fn said_line(
         → HoldsFile f reading words table report.old
         → HoldsFile (said_line name.now full says f) result words table report.new }
 {
-    let mut next = if says == reading.named {
-        blank_line(reading)
-    } else {
-        wrong_count_line(reading, name, body, says, report)
-    };
-    next.said = true;
-    next
+    Reading {
+        tally: reading
+            .tally
+            .said_line(name, body, says, b" offsets and names ", report),
+        ..reading
+    }
 }
 
 // An offset that no earlier line names: it becomes a member, and the table has its line.
@@ -88,13 +69,34 @@ fn new_offset(reading: Reading, offset: usize, words: &mut [u64], table: &mut [u
     if table.len() <= offset {
         return reading;
     }
-    let line = more(reading.lines);
+    let line = more(reading.tally.lines);
     table[offset] = line as u64 * 2 + table[offset] % 2;
-    insert(FixedBitSet::new(65536), words, offset);
-    let mut next = reading;
-    next.lines = line;
-    next.named = more(reading.named);
-    next
+    let _accepted = insert(FixedBitSet::new(65536), words, offset);
+    let tally = Tally {
+        lines: line,
+        named: more(reading.tally.named),
+        ..reading.tally
+    };
+    Reading { tally, ..reading }
+}
+
+// An offset that is named again, behind what the report has.
+fn say_repeat(
+    report: &mut [u8],
+    at: usize,
+    name: &[u8],
+    line: usize,
+    offset: usize,
+    first: u64,
+) -> usize
+    ensures { record { end = result; out = report.new } ≡ written report.old at (repeat_text name.now line offset first) }
+{
+    let mut text = Text {
+        out: report,
+        end: at,
+    };
+    append_repeat(&mut text, name, line, offset, first);
+    text.end
 }
 
 // An offset that one earlier line names: the table has that it is named again.
@@ -114,11 +116,16 @@ fn second_naming(
     }
     let first = table[offset] / 2;
     table[offset] = first * 2 + 1;
-    let mut next = reading;
-    next.lines = more(reading.lines);
-    next.repeats = more(reading.repeats);
+    let line = more(reading.tally.lines);
+    let mut next = Reading {
+        tally: Tally {
+            lines: line,
+            ..reading.tally
+        },
+        repeats: more(reading.repeats),
+    };
     if reading.repeats < 20 {
-        next.report = append_repeat(report, reading.report, name, next.lines, offset, first);
+        next.tally.report = say_repeat(report, reading.tally.report, name, line, offset, first);
     }
     next
 }
@@ -137,7 +144,7 @@ pub fn offset_line(
         → HoldsFile f reading words.old table.old report.old
         → HoldsFile (offset_line name.now full offset f) result words.new table.new report.new }
 {
-    if reading.said {
+    if reading.tally.said {
         return bad_line(
             reading,
             name,

@@ -1,72 +1,20 @@
 -- The digits that a text starts with, their number and their value, capped. Assumes nothing.
-use mathlib.Core.Path.{◌≡◌, refl, sym, ap, ◌∙◌}
-use mathlib.Core.Bool.{Bool, true, false, cond, ◌&&◌, ◌||◌}
+use mathlib.Core.Path.{◌≡◌, sym, ap, ◌∙◌}
+use mathlib.Core.Bool.{true, false, cond}
 use mathlib.Core.Logic.{◌⊎◌, inl, inr}
 use mathlib.Core.List.{List, [], ◌∷◌}
 use Prim.Native.Nat.{ℕ, suc, ◌+◌, ◌*◌, ◌^◌, ◌≤◌, ◌<◌, min}
 use native.Mathlib.Nat.{pow-zero, pow-succ', mul_assoc, add-mul, mul-zero, eq-zero-or-pos, le-mul_of_pos_right}
 use native.Mathlib.Omega.{arith}
-use borrow.Author.Tests.{leb-true, leb-false, ltb-true, ltb-false}
-use lib.Dec.{eqb, leb, ltb}
+use borrow.Author.Tests.{leb-true, leb-false, lt-leb, ltb-true, ltb-false}
+use lib.Dec.{leb, ltb}
 use lib.ListN.{length, get_or, drop, drop_of_length-le}
-use Rattle.offset_lines.specs.Lines.{is_digit, digit_value, digits_of, value_of}
+use Rattle.std.specs.Prelude.{Option, Some, None}
+use Rattle.std.specs.Bool.{then_some}
+use Rattle.std.proofs.lemmas.Option.{none-some, same_Some}
+use Rattle.offset_lines.specs.Lines.{is_digit, digit_value, digits_of, value_of, held_value}
 use Rattle.offset_lines.specs.declared.scans.Digits.{Digits}
 use Rattle.offset_lines.proofs.Texts.{yes_no, at_next}
-
--- ---- one digit
-
-pub both : (x y : Bool) → (x && y) ≡ true → (x ≡ true) × (y ≡ true)
-both true y e = (refl, e)
-both false y e = let z : ◌≡◌ {A = ℕ} 0 1 = cc in absurd (omega arith)
-
-either : (x y : Bool) → (x || y) ≡ true → (x ≡ true) ⊎ (y ≡ true)
-either true y e = inl refl
-either false y e = inr e
-
--- a byte of one of the three runs of digits
-within : (b l h : ℕ) → (leb l b && leb b h) ≡ true → (l ≤ b) × (b ≤ h)
-within b l h e = let f = both (leb l b) (leb b h) e in (leb-true l b f.0, leb-true b h f.1)
-
-value_small : (b : ℕ) → ((48 ≤ b) × (b ≤ 57)) ⊎ (((97 ≤ b) × (b ≤ 102)) ⊎ ((65 ≤ b) × (b ≤ 70))) → digit_value b < 16
-unfolding digit_value
-value_small b runs = go (yes_no (leb b 57)) (yes_no (leb b 70)) runs
-  where
-    go : (leb b 57 ≡ true) ⊎ (leb b 57 ≡ false) → (leb b 70 ≡ true) ⊎ (leb b 70 ≡ false)
-        → ((48 ≤ b) × (b ≤ 57)) ⊎ (((97 ≤ b) × (b ≤ 102)) ⊎ ((65 ≤ b) × (b ≤ 70))) → digit_value b < 16
-    go (inl e) f r = let l = leb-true b 57 e in rw e (omega arith)
-    go (inr e) (inl f) r = let l = leb-true b 70 f in rw (e, f) (omega arith)
-    go (inr e) (inr f) (inl r) = absurd (omega (arith, leb-false b 57 e))
-    go (inr e) (inr f) (inr (inl r)) = rw (e, f) (omega arith)
-    go (inr e) (inr f) (inr (inr r)) = absurd (omega (arith, leb-false b 70 f))
-
-digit_small : (base b : ℕ) → is_digit base b ≡ true → digit_value b < 16
-unfolding is_digit
-digit_small base b e = value_small b (go (either (leb 48 b && leb b 57) _ e))
-  where
-    go : ((leb 48 b && leb b 57) ≡ true) ⊎ ((eqb base 16 && ((leb 97 b && leb b 102) || (leb 65 b && leb b 70))) ≡ true)
-        → ((48 ≤ b) × (b ≤ 57)) ⊎ (((97 ≤ b) × (b ≤ 102)) ⊎ ((65 ≤ b) × (b ≤ 70)))
-    go (inl t) = inl (within b 48 57 t)
-    go (inr t) = inr (high (either (leb 97 b && leb b 102) _ (both (eqb base 16) _ t).1))
-      where
-        high : ((leb 97 b && leb b 102) ≡ true) ⊎ ((leb 65 b && leb b 70) ≡ true) → ((97 ≤ b) × (b ≤ 102)) ⊎ ((65 ≤ b) × (b ≤ 70))
-        high (inl t) = inl (within b 97 102 t)
-        high (inr t) = inr (within b 65 70 t)
-
-module _ (base b d : ℕ) (h : d ≡ cond (is_digit base b) (digit_value b) 16) where
-  -- below 16 it is a digit, and no other byte is
-  pub digit_is : d ≤ 15 → (is_digit base b ≡ true) × (d ≡ digit_value b)
-  digit_is l = go (yes_no (is_digit base b))
-    where
-      go : (is_digit base b ≡ true) ⊎ (is_digit base b ≡ false) → (is_digit base b ≡ true) × (d ≡ digit_value b)
-      go (inl e) = (e, rw e at h)
-      go (inr e) = let f = rw e at h in absurd (omega arith)
-
-  pub digit_not : 15 < d → is_digit base b ≡ false
-  digit_not l = go (yes_no (is_digit base b))
-    where
-      go : (is_digit base b ≡ true) ⊎ (is_digit base b ≡ false) → is_digit base b ≡ false
-      go (inl e) = let f = rw e at h in absurd (omega (arith, digit_small base b e))
-      go (inr e) = e
 
 -- ---- the value with one digit more
 
@@ -91,10 +39,35 @@ capped_more x p w = go (yes_no (ltb x 65537)) (eq-zero-or-pos p)
         let e : min 65537 x ≡ 65537 = omega arith in
         omega (arith, e, le-mul_of_pos_right x z, le-mul_of_pos_right (min 65537 x) z)
 
+-- ---- a value is held up to 65,536
+
+pub held_as : (value v : ℕ) → value ≡ min 65537 v → then_some (leb value 65536) value ≡ held_value v
+unfolding held_value
+held_as value v e = go (yes_no (leb v 65536))
+  where
+    go : (leb v 65536 ≡ true) ⊎ (leb v 65536 ≡ false) → then_some (leb value 65536) value ≡ held_value v
+    go (inl h) = let l = leb-true v 65536 h in let m : value ≡ v = omega (arith, e) in rw (m, h)
+    go (inr h) = let l = leb-false v 65536 h in rw (h, lt-leb value 65536 (omega (arith, e)))
+
+-- one digit, or none
+pub digit_some : (base b d : ℕ) → cond (is_digit base b) (Some (digit_value b)) None ≡ Some d → (is_digit base b ≡ true) × (digit_value b ≡ d)
+digit_some base b d e = go (yes_no (is_digit base b))
+  where
+    go : (is_digit base b ≡ true) ⊎ (is_digit base b ≡ false) → (is_digit base b ≡ true) × (digit_value b ≡ d)
+    go (inl h) = (h, same_Some _ _ (rw h at e))
+    go (inr h) = absurd (none-some d (rw h at e))
+
+pub digit_none : (base b : ℕ) → cond (is_digit base b) (Some (digit_value b)) None ≡ None → is_digit base b ≡ false
+digit_none base b e = go (yes_no (is_digit base b))
+  where
+    go : (is_digit base b ≡ true) ⊎ (is_digit base b ≡ false) → is_digit base b ≡ false
+    go (inl h) = absurd (none-some (digit_value b) (sym (rw h at e)))
+    go (inr h) = h
+
 -- ---- the loop
 
 abbrev pub all_read : ℕ → List ℕ → Digits
-all_read base text = record { count = length (digits_of base text); value = min 65537 (value_of base (digits_of base text)) }
+all_read base text = record { count = length (digits_of base text); value = held_value (value_of base (digits_of base text)) }
 
 -- so many digits of such a value are read
 
@@ -128,21 +101,25 @@ module _ {base : ℕ} {text : List ℕ} {count value : ℕ} (r : Read base text 
       }
 
   -- where no digit is left, they are all read
-  read_all : digits_of base (drop count text) ≡ [] → record { count = count; value = value } ≡ all_read base text
-  unfolding value_of
-  read_all e =
-      let n : count + 0 ≡ length (digits_of base text) = ap (λ (xs : List ℕ). count + length xs) (sym e) ∙ r.counted in
-      let v : min 65537 (value * 1 + 0) ≡ min 65537 (value_of base (digits_of base text)) =
-      rw pow-zero at (ap (λ (xs : List ℕ). min 65537 (value * base ^ length xs + value_of base xs)) (sym e) ∙ r.valued) in
-      let s = r.small in
-      let m : count ≡ length (digits_of base text) = omega (arith, n) in
-      let w : value ≡ min 65537 (value_of base (digits_of base text)) = omega (arith, v) in
-      rw (m, w)
+  module _ (none : digits_of base (drop count text) ≡ []) where
+    count_all : count ≡ length (digits_of base text)
+    count_all = let n : count + 0 ≡ length (digits_of base text) = ap (λ (xs : List ℕ). count + length xs) (sym none) ∙ r.counted in omega (arith, n)
 
-  pub read-not : count < length text → is_digit base (get_or text count 0) ≡ false → record { count = count; value = value } ≡ all_read base text
-  unfolding digits_of
-  read-not l h = read_all (simp (at_next text count l, h))
+    value_all : value ≡ min 65537 (value_of base (digits_of base text))
+    unfolding value_of
+    value_all =
+        let v : min 65537 (value * 1 + 0) ≡ min 65537 (value_of base (digits_of base text)) =
+        rw pow-zero at (ap (λ (xs : List ℕ). min 65537 (value * base ^ length xs + value_of base xs)) (sym none) ∙ r.valued) in
+        let s = r.small in
+        omega (arith, v)
 
-  pub read_end : length text ≤ count → record { count = count; value = value } ≡ all_read base text
+    pub read_as : (held : Option ℕ) → ((v : ℕ) → value ≡ min 65537 v → held ≡ held_value v) → record { count = count; value = held } ≡ all_read base text
+    read_as held h = rw (sym count_all, h _ value_all)
+
+  pub none-not : count < length text → is_digit base (get_or text count 0) ≡ false → digits_of base (drop count text) ≡ []
   unfolding digits_of
-  read_end l = read_all (rw (drop_of_length-le text l))
+  none-not l h = simp (at_next text count l, h)
+
+  pub none_end : length text ≤ count → digits_of base (drop count text) ≡ []
+  unfolding digits_of
+  none_end l = rw (drop_of_length-le text l)

@@ -3,14 +3,18 @@ use mathlib.Core.Path.{◌≡◌, refl, sym, ap, ◌∙◌}
 use mathlib.Core.Bool.{true, false}
 use mathlib.Core.Logic.{◌⊎◌, inl, inr}
 use mathlib.Core.List.{List, [], ◌∷◌}
-use Prim.Native.Nat.{ℕ, ◌-◌, ◌≤◌, min}
+use Prim.Native.Nat.{ℕ, ◌-◌, ◌≤◌, ◌<◌}
 use native.Mathlib.Omega.{arith}
-use borrow.Author.Tests.{ltb-true, ltb-false, le-ltb, lt-leb}
+use borrow.Author.Tests.{leb-false, ltb-true, ltb-false}
 use borrow.Author.Rules.{part_to_end}
-use lib.Dec.{eqb, ltb}
+use lib.Dec.{eqb, leb, ltb}
 use lib.ListN.{length, take, drop}
-use Rattle.offset_lines.specs.Lines.{is_digit, drop_blanks, digits_of, after_digits, value_of, starts_with, is_void, number_of, number_text, said_of}
-use Rattle.offset_lines.specs.declared.entry.Entry.TheVariants.{NotANumber}
+use Rattle.std.specs.Prelude.{Option, Some, None, Ok, Err}
+use Rattle.std.proofs.lemmas.Result.{IfOk-at_ok, IfErr-at_err}
+use Rattle.offset_lines.specs.declared.entry.Fault.{Fault}
+use Rattle.offset_lines.specs.declared.entry.Fault.TheVariants.{TooLarge}
+use Rattle.std.proofs.lemmas.Option.{none-some, same_Some}
+use Rattle.offset_lines.specs.Lines.{is_digit, digits_of, after_digits, value_of, starts_with, held_value, offset_of, said_of}
 use Rattle.offset_lines.specs.declared.scans.Digits.{Digits}
 use Rattle.offset_lines.proofs.Texts.{yes_no}
 use Rattle.offset_lines.proofs.DigitLaws.{all_read}
@@ -50,55 +54,59 @@ after_is base (b ∷ text) = go (yes_no (is_digit base b)) (after_is base text)
     go (inl h) same = simp h same
     go (inr h) same = simp h
 
--- ---- a value above the cap is as good as the cap
+-- ---- a held value tells as much as the value
 
-number_capped : (n v : ℕ) → number_of n (min 65537 v) ≡ number_of n v
-unfolding number_of
-number_capped n v = go (yes_no (ltb v 65537))
+-- an offset is below 65,536
+pub held_below : (v x : ℕ) → Some x ≡ held_value v → v ≡ x
+unfolding held_value
+held_below v x e = go (yes_no (leb v 65536))
   where
-    go : (ltb v 65537 ≡ true) ⊎ (ltb v 65537 ≡ false) → number_of n (min 65537 v) ≡ number_of n v
-    go (inl h) = let l = ltb-true v 65537 h in let e : min 65537 v ≡ v = omega arith in ap (number_of n) e
-    go (inr h) =
-        let l = ltb-false v 65537 h in
-        let e : min 65537 v ≡ 65537 = omega arith in
-        simp (e, le-ltb v 65536 (omega arith))
+    go : (leb v 65536 ≡ true) ⊎ (leb v 65536 ≡ false) → v ≡ x
+    go (inl h) = same_Some _ _ (sym (rw h at e))
+    go (inr h) = absurd (none-some x (sym (rw h at e)))
 
-said_capped : (one many : List ℕ) (n v : ℕ) (word : List ℕ) → said_of one many n (min 65537 v) word ≡ said_of one many n v word
-unfolding said_of
-said_capped one many n v word = go (yes_no (ltb v 65537)) (yes_no (ltb 0 n))
+pub held_none : (v : ℕ) → None ≡ held_value v → 65536 < v
+unfolding held_value
+held_none v e = go (yes_no (leb v 65536))
   where
-    go : (ltb v 65537 ≡ true) ⊎ (ltb v 65537 ≡ false) → (ltb 0 n ≡ true) ⊎ (ltb 0 n ≡ false) → said_of one many n (min 65537 v) word ≡ said_of one many n v word
-    go (inl h) z = let l = ltb-true v 65537 h in let e : min 65537 v ≡ v = omega arith in ap (λ (x : ℕ). said_of one many n x word) e
-    go (inr h) (inl z) =
-        let l = ltb-false v 65537 h in
-        let e : min 65537 v ≡ 65537 = omega arith in
-        simp (e, z, lt-leb v 65536 (omega arith))
-    go (inr h) (inr z) = simp z
+    go : (leb v 65536 ≡ true) ⊎ (leb v 65536 ≡ false) → 65536 < v
+    go (inl h) = absurd (none-some v (rw h at e))
+    go (inr h) = leb-false v 65536 h
+
+-- an offset that is read is the value, and a value that is none is too large
+pub offset_read : (v x : ℕ) → offset_of v ≡ Ok x → (v < 65536) × (v ≡ x)
+unfolding offset_of
+offset_read v x e = go (yes_no (ltb v 65536))
+  where
+    go : (ltb v 65536 ≡ true) ⊎ (ltb v 65536 ≡ false) → (v < 65536) × (v ≡ x)
+    go (inl h) = (ltb-true v 65536 h, IfOk-at_ok (λ (y : ℕ). v ≡ y) (rw h at e) refl)
+    go (inr h) = absurd (IfOk-at_ok (λ (y : ℕ). ⊥) (rw h at e) tt)
+
+pub offset_fault : (v : ℕ) (e : Fault) → offset_of v ≡ Err e → (65536 ≤ v) × (e ≡ TooLarge)
+unfolding offset_of
+offset_fault v e f = go (yes_no (ltb v 65536))
+  where
+    go : (ltb v 65536 ≡ true) ⊎ (ltb v 65536 ≡ false) → (65536 ≤ v) × (e ≡ TooLarge)
+    go (inl h) = absurd (IfOk-at_ok (λ (y : ℕ). ⊥) (sym (rw h at f)) tt)
+    go (inr h) = (ltb-false v 65536 h, IfErr-at_err (λ (d : Fault). d ≡ TooLarge) (rw h at f) refl)
 
 -- ---- a number at the start of a text, with what stands behind it
-
-abbrev pub said_text : List ℕ → List ℕ → ℕ → List ℕ → ℕ
-said_text one many base text = said_of one many (length (digits_of base text)) (value_of base (digits_of base text)) (after_digits base text)
 
 module _ (base : ℕ) (text : List ℕ) (d : Digits) (r : d ≡ all_read base text) where
   pub count_within : d.count ≤ length text
   count_within = let e = ap (λ (x : Digits). x.count) r in omega (arith, e, digits_within base text)
 
-  rest_is : from d.count text ≡ after_digits base text
+  pub rest_is : from d.count text ≡ after_digits base text
   rest_is = part_to_end text d.count ∙ ap (λ (x : Digits). drop x.count text) r ∙ after_is base text
 
-  -- with nothing or a comment behind it, and with anything else
-  module _ (k : ℕ) (s : drop k (from d.count text) ≡ drop_blanks (from d.count text)) where
-    void_is : is_void (from k (from d.count text)) ≡ is_void (drop_blanks (after_digits base text))
-    void_is = ap is_void (part_to_end (from d.count text) k ∙ s ∙ ap drop_blanks rest_is)
+  -- what is known of the count and of the value holds of the digits
+  module _ {A : Type 0} (x : A) (f : ℕ → ℕ → A) (h : (v : ℕ) → d.value ≡ held_value v → x ≡ f d.count v) where
+    pub told_is : x ≡ f (length (digits_of base text)) (value_of base (digits_of base text))
+    told_is = h _ (ap (λ (x : Digits). x.value) r) ∙ ap (λ (x : Digits). f x.count (value_of base (digits_of base text))) r
 
-    pub number_is : is_void (from k (from d.count text)) ≡ true → number_of d.count d.value ≡ number_text base text
-    unfolding number_text
-    number_is h = simp (sym void_is ∙ h) (ap (λ (x : Digits). number_of x.count x.value) r ∙ number_capped _ _)
-
-    pub number-not : is_void (from k (from d.count text)) ≡ false → NotANumber ≡ number_text base text
-    unfolding number_text
-    number-not h = simp (sym void_is ∙ h)
-
-  pub said_is : (one many : List ℕ) → said_of one many d.count d.value (from d.count text) ≡ said_text one many base text
-  said_is one many = ap (said_of one many d.count d.value) rest_is ∙ ap (λ (x : Digits). said_of one many x.count x.value (after_digits base text)) r ∙ said_capped one many _ _ _
+pub said_is : (one many : List ℕ) (base : ℕ) (text : List ℕ) (d : Digits) → d ≡ all_read base text → (x : Option ℕ)
+    → ((v : ℕ) → d.value ≡ held_value v → x ≡ said_of one many d.count v (from d.count text))
+    → x ≡ said_of one many (length (digits_of base text)) (value_of base (digits_of base text)) (after_digits base text)
+said_is one many base text d r x h =
+    told_is base text d r x (λ n v. said_of one many n v (from d.count text)) h
+    ∙ ap (said_of one many (length (digits_of base text)) (value_of base (digits_of base text))) (rest_is base text d r)

@@ -1,16 +1,20 @@
 -- One turn of the loops over the bytes of a text, and the end of a line. Assumes nothing.
-use mathlib.Core.Path.{◌≡◌, refl, ap}
-use mathlib.Core.Bool.{Bool, true, false}
+use mathlib.Core.Path.{◌≡◌, refl, sym, ap}
+use mathlib.Core.Bool.{Bool, true, false, ◌&&◌, ◌||◌, and_assoc}
 use mathlib.Core.Logic.{◌⊎◌, inl, inr}
 use mathlib.Core.List.{List, [], ◌∷◌}
 use Prim.Native.Nat.{ℕ, zero, suc, ◌+◌, ◌≤◌, ◌<◌}
-use native.Mathlib.Numerals.{add-one}
+use native.Mathlib.Numerals.{add-one, one-add}
 use native.Mathlib.Omega.{arith}
-use borrow.Author.Tests.{eq-eqb, ne_eqb}
-use lib.Dec.{eqb}
-use lib.ListN.{length, get_or, take, drop, drop_of_length-le}
+use borrow.Author.Tests.{eq-eqb, ne_eqb, eqb-true, eqb-false}
+use lib.Dec.{eqb, eqb-suc-suc}
+use lib.ListN.{length, get_or, take, drop, length-take}
 use lib.Seq.{drop-cons}
-use Rattle.offset_lines.specs.Lines.{is_blank, drop_blanks, starts_with, is_void, without_return, has_return}
+use lib.Pointwise.{pointwise}
+use Rattle.std.specs.Prelude.{Result, Ok, Err}
+use Rattle.std.specs.Result.{IsErrAnd}
+use Rattle.std.specs.List.{list_any, take_while, prefix_len}
+use Rattle.offset_lines.specs.Lines.{is_blank, drop_blanks, starts_with, is_text, is_void, without_return, has_return}
 
 pub yes_no : (b : Bool) → (b ≡ true) ⊎ (b ≡ false)
 yes_no true = inl refl
@@ -20,65 +24,48 @@ yes_no false = inr refl
 pub at_next : (text : List ℕ) (k : ℕ) → k < length text → drop k text ≡ get_or text k 0 ∷ drop (k + 1) text
 at_next text k l = rw add-one (drop-cons text k 0 l)
 
-module _ (text : List ℕ) (k : ℕ) where
-  -- ---- a carriage return
+-- a fault that `?` hands on
+pub refused_as : {A E : Type 0} (r : Result A E) (e : E) → IsErrAnd r (λ x. x ≡ e) → r ≡ Err e
+refused_as (Ok x) e h = absurd h
+refused_as (Err x) e h = ap Err h
 
-  pub return_there : k < length text → get_or text k 0 ≡ 13 → true ≡ has_return (drop k text)
-  unfolding has_return
-  return_there l h = simp (at_next text k l, eq-eqb (get_or text k 0) 13 h)
+-- ---- what the library's methods give
 
-  pub return_next : k < length text → (get_or text k 0 ≡ 13 → ⊥) → has_return (drop (k + 1) text) ≡ has_return (drop k text)
-  unfolding has_return
-  return_next l h = simp (at_next text k l, ne_eqb (get_or text k 0) 13 h)
+pub return_any : (text : List ℕ) → list_any (λ b. eqb b 13) text ≡ has_return text
+unfolding has_return
+return_any [] = refl
+return_any (b ∷ text) = ap (λ (t : Bool). eqb b 13 || t) (return_any text)
 
-  pub return_none : length text ≤ k → false ≡ has_return (drop k text)
-  unfolding has_return
-  return_none l = rw (drop_of_length-le text l)
-
-  -- ---- blanks
-
-  pub blank_next : k < length text → is_blank (get_or text k 0) ≡ true → drop_blanks (drop (k + 1) text) ≡ drop_blanks (drop k text)
-  unfolding drop_blanks
-  blank_next l h = simp (at_next text k l, h)
-
-  pub blank_not : k < length text → is_blank (get_or text k 0) ≡ false → drop k text ≡ drop_blanks (drop k text)
-  unfolding drop_blanks
-  blank_not l h = simp (at_next text k l, h)
-
-  pub blank_none : length text ≤ k → drop k text ≡ drop_blanks (drop k text)
-  unfolding drop_blanks
-  blank_none l = rw (drop_of_length-le text l)
-
--- where blanks end: all before are passed
-pub record Passed (text : List ℕ) (k : ℕ) : Type 0 where
-  pub within : k ≤ length text
-  pub same : drop_blanks (drop k text) ≡ drop_blanks text
-
--- ---- these bytes at the start
-
-pub too_short : (these text : List ℕ) → length text < length these → false ≡ starts_with these text
-unfolding starts_with
-too_short [] text l = absurd (omega arith)
-too_short (p ∷ these) [] l = refl
-too_short (p ∷ these) (b ∷ text) l = go (yes_no (eqb p b)) (too_short these text (omega arith))
+pub blanks_skipped : (text : List ℕ) → drop (length (take_while is_blank text)) text ≡ drop_blanks text
+unfolding drop_blanks
+blanks_skipped [] = refl
+blanks_skipped (b ∷ text) = go (yes_no (is_blank b)) (blanks_skipped text)
   where
-    go : (eqb p b ≡ true) ⊎ (eqb p b ≡ false) → false ≡ starts_with these text → false ≡ starts_with (p ∷ these) (b ∷ text)
-    go (inl e) same = simp e same
-    go (inr e) same = simp e
+    go : (is_blank b ≡ true) ⊎ (is_blank b ≡ false) → drop (length (take_while is_blank text)) text ≡ drop_blanks text
+        → drop (length (take_while is_blank (b ∷ text))) (b ∷ text) ≡ drop_blanks (b ∷ text)
+    go (inl h) same = simp (h, one-add) same
+    go (inr h) same = simp h
 
-module _ (these text : List ℕ) (k : ℕ) where
-  pub start_next : k < length these → k < length text → get_or these k 0 ≡ get_or text k 0
-      → starts_with (drop (k + 1) these) (drop (k + 1) text) ≡ starts_with (drop k these) (drop k text)
-  unfolding starts_with
-  start_next l m h = simp (at_next these k l, at_next text k m, eq-eqb (get_or these k 0) (get_or text k 0) h)
+pub starts_as : (these text : List ℕ) → pointwise eqb these (take (length these) text) ≡ starts_with these text
+unfolding starts_with
+starts_as [] text = refl
+starts_as (p ∷ these) [] = refl
+starts_as (p ∷ these) (b ∷ text) = ap (λ (t : Bool). eqb p b && t) (starts_as these text)
 
-  pub start_not : k < length these → k < length text → (get_or these k 0 ≡ get_or text k 0 → ⊥) → false ≡ starts_with (drop k these) (drop k text)
-  unfolding starts_with
-  start_not l m h = simp (at_next these k l, at_next text k m, ne_eqb (get_or these k 0) (get_or text k 0) h)
+eqb_comm : (a b : ℕ) → eqb a b ≡ eqb b a
+eqb_comm a b = go (yes_no (eqb a b))
+  where
+    go : (eqb a b ≡ true) ⊎ (eqb a b ≡ false) → eqb a b ≡ eqb b a
+    go (inl e) = let f = eqb-true a b e in rw f
+    go (inr e) = rw (e, ne_eqb b a (λ f. eqb-false a b e (sym f)))
 
-  pub start_all : length these ≤ k → true ≡ starts_with (drop k these) (drop k text)
-  unfolding starts_with
-  start_all l = rw (drop_of_length-le these l)
+-- a text is these bytes where it starts with them and is as long
+pub text_as : (these text : List ℕ) → pointwise eqb text these ≡ is_text these text
+unfolding is_text starts_with
+text_as [] [] = refl
+text_as [] (b ∷ text) = rw (ne_eqb 0 (length (b ∷ text)) (λ e. absurd (omega (arith, e))))
+text_as (p ∷ these) [] = refl
+text_as (p ∷ these) (b ∷ text) = simp (eqb_comm b p, text_as these text, eqb-suc-suc, and_assoc)
 
 -- ---- nothing, or a comment
 
@@ -94,7 +81,7 @@ void_first (b ∷ text) e = refl
 
 -- ---- the end of a line
 
-pub end_empty : (line : List ℕ) → length line ≡ 0 → take 0 line ≡ without_return line
+pub end_empty : (line : List ℕ) → length line ≡ 0 → line ≡ without_return line
 unfolding without_return
 end_empty [] e = refl
 end_empty (b ∷ line) e = absurd (omega arith)

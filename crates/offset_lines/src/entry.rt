@@ -1,10 +1,16 @@
-// What a line is: `Says` is the last line of a list, with its number of offsets.
+// What a line says: nothing, the item that it names, or, as the last line of a list, how many items the list names.
 #[derive(Clone, Copy)]
-pub enum Entry {
+pub enum Entry<T> {
     Blank,
-    Offset(usize),
+    Item(T),
     Says(usize),
+}
+
+// Why a line may not stand in a text.
+#[derive(Clone, Copy)]
+pub enum Fault {
     NotANumber,
+    NotTwoNumbers,
     TooLarge,
     CarriageReturn,
     TooLong,

@@ -3,11 +3,12 @@
 #![tactic(auto)]
 
 mod entry;
+mod fault_texts;
 mod last_lines;
 mod lines;
 mod scans;
 
-pub use entry::Entry;
-pub use last_lines::said_number;
-pub use lines::parse_line;
-pub use scans::{Digits, end_of, has_return, is_void, read_digits, skip_blanks, starts_with};
+pub use entry::{Entry, Fault};
+pub use fault_texts::fault_text;
+pub use lines::{offset_of, parse_by, parse_line};
+pub use scans::{Digits, is_void, read_digits, skip_blanks, starts_with};

@@ -1,78 +1,113 @@
-ghost use Rattle.std.specs.Prelude.{◌≡◌};
-ghost use Rattle.offset_lines.specs.Lines.{number_of, number_text, complete_text, text_of, line_of};
+ghost use Rattle.std.specs.Prelude.{◌≡◌, ℕ, List, Result};
+ghost use Rattle.std.specs.Fn.{FnReturnsAt};
+ghost use Rattle.offset_lines.specs.Lines.{held_value, offset_of, number_of, number_text, offset_text, complete_text, text_of, line_by, line_of};
+ghost use Rattle.offset_lines.specs.declared.entry.Fault.{Fault as FaultOf};
 
-use crate::entry::Entry;
+use crate::entry::{Entry, Fault};
 use crate::last_lines::said_number;
-use crate::scans::{end_of, has_return, is_void, read_digits, skip_blanks, starts_with};
+use crate::scans::{
+    Digits, has_return, is_void, read_digits, skip_blanks, starts_with, without_return,
+};
 
-// So many digits of such a value.
-fn number_of(count: usize, value: usize) -> Entry
-    ensures { result ≡ number_of count value }
+// A value as an offset: below 65,536.
+pub fn offset_of(value: Option<usize>) -> Result<usize, Fault>
+    ensures { (v : ℕ) → value ≡ held_value v → result ≡ offset_of v }
 {
-    if count == 0 {
-        return Entry::NotANumber;
+    match value {
+        Some(value) if value < 65536 => Ok(value),
+        _ => Err(Fault::TooLarge),
     }
-    if value < 65536 {
-        Entry::Offset(value)
+}
+
+// The offset of such digits.
+fn number_of(digits: Digits) -> Result<usize, Fault>
+    ensures { (v : ℕ) → digits.value ≡ held_value v → result ≡ number_of digits.count v }
+{
+    if digits.count == 0 {
+        Err(Fault::NotANumber)
     } else {
-        Entry::TooLarge
+        offset_of(digits.value)
     }
 }
 
 // A text that starts with a number.
-fn number_text(text: &[u8], base: u8) -> Entry
+fn number_text(text: &[u8], base: u8) -> Result<usize, Fault>
     ensures { result ≡ number_text base text.now }
 {
     let digits = read_digits(text, base);
-    let count = digits.count;
-    let value = digits.value;
-    let rest = &text[count..];
-    let at = skip_blanks(rest);
-    if is_void(&rest[at..]) {
-        return number_of(count, value);
+    if is_void(skip_blanks(&text[digits.count..])) {
+        number_of(digits)
+    } else {
+        Err(Fault::NotANumber)
     }
-    Entry::NotANumber
+}
+
+// The offset that a text names.
+fn offset_text(text: &[u8]) -> Result<usize, Fault>
+    ensures { result ≡ offset_text text.now }
+{
+    if starts_with(b"0x", text) {
+        number_text(&text[2..], 16)
+    } else {
+        number_text(text, 10)
+    }
 }
 
 // What stands behind `# complete:`.
-fn complete_text(rest: &[u8]) -> Entry
-    ensures { result ≡ complete_text rest.now }
+fn complete_text<T>(rest: &[u8], one: &[u8], many: &[u8]) -> Result<Entry<T>, Fault>
+    ensures { result ≡ complete_text one.now many.now rest.now }
 {
-    let says = said_number(rest, b" offset", b" offsets");
-    if says <= 65536 {
-        return Entry::Says(says);
+    match said_number(rest, one, many) {
+        Some(count) => Ok(Entry::Says(count)),
+        None => Err(Fault::Damaged),
     }
-    Entry::Damaged
 }
 
 // A text from its first byte that is not blank.
-fn text_of(text: &[u8]) -> Entry
-    ensures { result ≡ text_of text.now }
+fn text_of<T, F: Fn(&[u8]) -> Result<T, Fault>>(
+    text: &[u8],
+    one: &[u8],
+    many: &[u8],
+    item: F,
+) -> Result<Entry<T>, Fault>
+    requires { F.IsAlwaysCallable item }
+    ensures { (item_of : List ℕ → Result T FaultOf) → ((these : List ℕ) (r : _) → FnReturnsAt F.Fn item these r → r ≡ item_of these)
+        → result ≡ text_of one.now many.now item_of text.now }
 {
-    if is_void(text) {
-        if starts_with(b"# complete:", text) {
-            return complete_text(&text[11..]);
-        }
-        return Entry::Blank;
+    if !is_void(text) {
+        return Ok(Entry::Item(item(text)?));
     }
-    if starts_with(b"0x", text) {
-        return number_text(&text[2..], 16);
+    if starts_with(b"# complete:", text) {
+        complete_text(&text[11..], one, many)
+    } else {
+        Ok(Entry::Blank)
     }
-    number_text(text, 10)
 }
 
-// What a line is, from its bytes without the line feed.
-pub fn parse_line(line: &[u8]) -> Entry
-    ensures { result ≡ line_of line.now }
+// What a line is, from its bytes without the line feed. `item` reads what a line names, and `one` and `many` are the words for that in the last line of a list.
+pub fn parse_by<T, F: Fn(&[u8]) -> Result<T, Fault>>(
+    line: &[u8],
+    one: &[u8],
+    many: &[u8],
+    item: F,
+) -> Result<Entry<T>, Fault>
+    requires { F.IsAlwaysCallable item }
+    ensures { (item_of : List ℕ → Result T FaultOf) → ((these : List ℕ) (r : _) → FnReturnsAt F.Fn item these r → r ≡ item_of these)
+        → result ≡ line_by one.now many.now item_of line.now }
 {
     if 2048 < line.len() {
-        return Entry::TooLong;
+        return Err(Fault::TooLong);
     }
-    let end = end_of(line);
-    let text = &line[..end];
+    let text = without_return(line);
     if has_return(text) {
-        return Entry::CarriageReturn;
+        return Err(Fault::CarriageReturn);
     }
-    let at = skip_blanks(text);
-    text_of(&text[at..])
+    text_of(skip_blanks(text), one, many, item)
+}
+
+// What a line of offsets is.
+pub fn parse_line(line: &[u8]) -> Result<Entry<usize>, Fault>
+    ensures { result ≡ line_of line.now }
+{
+    parse_by(line, b" offset", b" offsets", offset_text)
 }

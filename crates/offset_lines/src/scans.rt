@@ -1,145 +1,110 @@
-ghost use Rattle.std.specs.Prelude.{cond, ◌≡◌, ◌≤◌, min, length, take, drop};
-ghost use Rattle.offset_lines.specs.Lines.{is_blank, is_digit, digit_value, drop_blanks, digits_of, value_of, starts_with, is_text, is_void, without_return, has_return};
+ghost use Rattle.std.specs.Prelude.{Some, None, cond, ◌≡◌, ℕ, min, length};
+ghost use Rattle.std.specs.List.{take_while};
+ghost use Rattle.offset_lines.specs.Lines.{is_blank, is_digit, digit_value, drop_blanks, digits_of, value_of, starts_with, is_text, is_void, without_return, has_return, held_value};
 
-// How many digits a text starts with, and their value, up to 65,537.
+// How many digits a text starts with, and their value, where it is at most 65,536.
 #[derive(Clone, Copy)]
 pub struct Digits {
     pub count: usize,
-    pub value: usize,
+    pub value: Option<usize>,
 }
 
-// Where a line ends without the carriage return that ends it.
-pub fn end_of(line: &[u8]) -> usize
-    ensures { (result ≤ length line.now) × (take result line.now ≡ without_return line.now) }
+// A line without the carriage return that ends it.
+pub(crate) fn without_return(line: &[u8]) -> &[u8]
+    ensures { result.now ≡ without_return line.now }
 {
-    let size = line.len();
-    if size == 0 {
-        return 0;
+    match line {
+        [rest @ .., b'\r'] => rest,
+        _ => line,
     }
-    let last = size - 1;
-    if line[last] == 13 {
-        return last;
-    }
-    size
 }
 
 // Whether a carriage return is there.
-pub fn has_return(text: &[u8]) -> bool
+pub(crate) fn has_return(text: &[u8]) -> bool
     ensures { result ≡ has_return text.now }
 {
-    let mut k = 0;
-    while k < text.len() {
-        if text[k] == 13 {
-            return true;
-        }
-        k += 1;
-    }
-    false
+    text.contains(&b'\r')
 }
 
 // A space or a tab.
 fn is_blank(byte: u8) -> bool
     ensures { result ≡ is_blank byte }
 {
-    byte == 32 || byte == 9
+    byte == b' ' || byte == b'\t'
 }
 
-// Where the first byte stands that is not blank.
-pub fn skip_blanks(text: &[u8]) -> usize
-    ensures { (result ≤ length text.now) × (drop result text.now ≡ drop_blanks text.now) }
+// How many blanks a text starts with.
+fn blanks(text: &[u8]) -> usize
+    ensures { result ≡ length (take_while is_blank text.now) }
 {
-    let mut k = 0;
-    while k < text.len() {
-        if !is_blank(text[k]) {
-            return k;
-        }
-        k += 1;
-    }
-    k
+    text.iter().take_while(|byte| is_blank(**byte)).count()
 }
 
-// The value of a digit, and 16 for any other byte.
-fn digit(byte: u8, base: u8) -> u8
-    ensures { result ≡ cond (is_digit base byte) (digit_value byte) 16 }
+// A text from its first byte that is not blank.
+pub fn skip_blanks(text: &[u8]) -> &[u8]
+    ensures { result.now ≡ drop_blanks text.now }
 {
-    if byte < 48 {
-        return 16;
-    }
-    if byte <= 57 {
-        return byte - 48;
-    }
-    if base != 16 {
-        return 16;
-    }
-    if byte < 65 {
-        return 16;
-    }
-    if byte <= 70 {
-        return byte - 55;
-    }
-    if byte < 97 {
-        return 16;
-    }
-    if byte <= 102 {
-        return byte - 87;
-    }
-    16
+    &text[blanks(text)..]
 }
 
-// A value from 65,537 up stays 65,537.
-fn capped(value: usize) -> usize
-    ensures { result ≡ min 65537 value }
+// The value of a digit.
+fn digit(byte: u8, base: u8) -> Option<u8>
+    ensures { result ≡ cond (is_digit base byte) (Some (digit_value byte)) None }
 {
-    if value < 65537 { value } else { 65537 }
+    match byte {
+        48..=57 => Some(byte - 48),
+        65..=70 if base == 16 => Some(byte - 55),
+        97..=102 if base == 16 => Some(byte - 87),
+        _ => None,
+    }
+}
+
+// A value up to 65,536. From 65,537 up each is as good as that.
+fn held_value(value: usize) -> Option<usize>
+    ensures { (v : ℕ) → value ≡ min 65537 v → result ≡ held_value v }
+{
+    (value <= 65536).then_some(value)
 }
 
 // The digits that a text starts with.
 pub fn read_digits(text: &[u8], base: u8) -> Digits
-    ensures { result ≡ record { count = length (digits_of base text.now); value = min 65537 (value_of base (digits_of base text.now)) } }
+    ensures { result ≡ record { count = length (digits_of base text.now); value = held_value (value_of base (digits_of base text.now)) } }
 {
     let mut count = 0;
     let mut value: usize = 0;
-    while count < text.len() {
-        let next = digit(text[count], base);
-        if 15 < next {
-            return Digits { count, value };
-        }
+    for byte in text {
+        let Some(next) = digit(*byte, base) else {
+            break;
+        };
         count += 1;
-        value = capped(value * (base as usize) + (next as usize));
+        value = (value * base as usize + next as usize).min(65537);
     }
-    Digits { count, value }
+    Digits {
+        count,
+        value: held_value(value),
+    }
 }
 
 // Whether a text starts with these bytes.
 pub fn starts_with(these: &[u8], text: &[u8]) -> bool
     ensures { result ≡ starts_with these.now text.now }
 {
-    if text.len() < these.len() {
-        return false;
-    }
-    let mut k = 0;
-    while k < these.len() {
-        if these[k] != text[k] {
-            return false;
-        }
-        k += 1;
-    }
-    true
+    text.starts_with(these)
 }
 
 // Whether a text is these bytes.
 pub(crate) fn is_text(these: &[u8], text: &[u8]) -> bool
     ensures { result ≡ is_text these.now text.now }
 {
-    starts_with(these, text) && these.len() == text.len()
+    text == these
 }
 
 // Whether nothing is there, or a comment.
 pub fn is_void(text: &[u8]) -> bool
     ensures { result ≡ is_void text.now }
 {
-    if text.len() == 0 {
-        return true;
+    match text {
+        [] => true,
+        [first, ..] => *first == b'#',
     }
-    text[0] == 35
 }

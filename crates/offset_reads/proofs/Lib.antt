@@ -1,3 +1,3 @@
 pub mod CutLaws
+pub mod StartLaws
 pub mod TextLaws
-pub mod ReadLaws

@@ -1,7 +1,7 @@
-// Reads a text of offsets in pieces of any cut, and each of its lines as it ends.
+// Reads a text of offsets line by line, each as it ends.
 #![tactic(auto)]
 
 mod lines;
-mod reads;
+mod reader;
 
-pub use reads::{finish, start, take};
+pub use reader::OffsetReader;

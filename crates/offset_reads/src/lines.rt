@@ -5,7 +5,7 @@ ghost use Rattle.offset_files.specs.Files.{File, entry_line, take_line};
 ghost use Rattle.offset_files.specs.Holds.{HoldsFile};
 
 use offset_files::{Reading, bad_line, blank_line, offset_line, said_line};
-use offset_lines::{Entry, parse_line};
+use offset_lines::{Entry, fault_text, parse_line};
 use text_lines::starts_with_mark;
 
 // A line by what it is. `body` has as many bytes of it as decide that, and as are shown.
@@ -22,26 +22,10 @@ fn take_body(
         → HoldsFile (entry_line name.now full (line_of full) f) result words.new table.new report.new }
 {
     match parse_line(body) {
-        Entry::Blank => blank_line(reading),
-        Entry::Offset(p) => offset_line(reading, name, body, p, words, table, report),
-        Entry::Says(n) => said_line(reading, name, body, n, report),
-        Entry::NotANumber => bad_line(reading, name, body, b"not a number", report),
-        Entry::TooLarge => bad_line(reading, name, body, b"65536 or above", report),
-        Entry::CarriageReturn => bad_line(
-            reading,
-            name,
-            body,
-            b"a carriage return inside the line",
-            report,
-        ),
-        Entry::TooLong => bad_line(reading, name, body, b"longer than 2048 bytes", report),
-        Entry::Damaged => bad_line(
-            reading,
-            name,
-            body,
-            b"a damaged last line of a list",
-            report,
-        ),
+        Ok(Entry::Blank) => blank_line(reading),
+        Ok(Entry::Item(offset)) => offset_line(reading, name, body, offset, words, table, report),
+        Ok(Entry::Says(count)) => said_line(reading, name, body, count, report),
+        Err(fault) => bad_line(reading, name, body, fault_text(fault), report),
     }
 }
 
@@ -58,7 +42,7 @@ pub(crate) fn take_line(
         → HoldsFile f reading words.old table.old report.old
         → HoldsFile (take_line name.now full f) result words.new table.new report.new }
 {
-    if reading.lines == 0 {
+    if reading.tally.lines == 0 {
         if starts_with_mark(line) {
             return take_body(reading, name, &line[3..], words, table, report);
         }

@@ -14,14 +14,17 @@ use Rattle.renumber_steps.specs.declared.pair.Pair as Pairs
 use Rattle.text_lines.specs.Texts.{more, body_of}
 use Rattle.text_lines.specs.Messages.{bad_text}
 use Rattle.pair_lines.specs.Lines.{pair_line_of}
-use Rattle.pair_lines.specs.declared.entry.PairEntry.{PairEntry}
-use Rattle.pair_lines.specs.declared.entry.PairEntry.TheVariants.{Blank, Pair, Says, NotTwoNumbers, TooLarge, CarriageReturn, TooLong, Damaged}
+use Rattle.std.specs.Prelude.{Result, Ok, Err}
+use Rattle.offset_lines.specs.declared.entry.Entry.{Entry}
+use Rattle.offset_lines.specs.declared.entry.Entry.TheVariants.{Blank, Item, Says}
+use Rattle.offset_lines.specs.declared.entry.Fault.{Fault}
+use Rattle.pair_lines.specs.declared.pair.Pair.{Pair}
 use Rattle.pair_lines.proofs.LineLaws.{pair_below}
 use Rattle.pair_files.specs.Messages.{faults_text, wrong_count}
 use Rattle.pair_files.specs.Files.{PairFile, no_pairs, no_text, blank_line, bad, bad_line, with_word, named, accepted, pair_line, said_line, entry_line, take_pair, pair_file_of}
 use Rattle.pair_files.specs.Holds.{HoldsPairs}
 use Rattle.pair_files.specs.Good.{is_pair, has_word, names, GoodPairs}
-use Rattle.pair_files.specs.declared.reading.PairReading.{PairReading}
+use Rattle.text_lines.specs.declared.tally.Tally.{Tally}
 use Rattle.pair_file_laws.proofs.ListLaws.{in_more, olds-more, news-more, pair_more, at_most, length-olds}
 use Rattle.pair_file_laws.proofs.SideLaws.{Side, side_more}
 use Rattle.pair_file_laws.proofs.KeepLaws.{text_keeps}
@@ -147,16 +150,12 @@ module _ (size : ℕ) where
         go true = fair_blank f h
         go false = fair_bad-line name body (wrong_count n f.pairs) f
 
-    fair_entry : (e : PairEntry) → ((p q : ℕ) → e ≡ Pair p q → (p < 65536) × (q < 65536)) → Fair size (entry_line name body size e f)
+    fair_entry : (e : Result (Entry Pair) Fault) → ((x : Pair) → e ≡ Ok (Item x) → (x.old < 65536) × (x.new < 65536)) → Fair size (entry_line name body size e f)
     unfolding entry_line
-    fair_entry Blank small = fair_blank f h
-    fair_entry (Pair old new) small = let s = small old new refl in fair_pair old new s.0 s.1
-    fair_entry (Says n) small = fair_said n
-    fair_entry NotTwoNumbers small = fair_bad-line name body _ f
-    fair_entry TooLarge small = fair_bad-line name body _ f
-    fair_entry CarriageReturn small = fair_bad-line name body _ f
-    fair_entry TooLong small = fair_bad-line name body _ f
-    fair_entry Damaged small = fair_bad-line name body _ f
+    fair_entry (Ok Blank) small = fair_blank f h
+    fair_entry (Ok (Item x)) small = let s = small x refl in fair_pair x.old x.new s.0 s.1
+    fair_entry (Ok (Says n)) small = fair_said n
+    fair_entry (Err fault) small = fair_bad-line name body _ f
 
   fair_line : (name line : List ℕ) (f : PairFile) → Fair size f → Fair size (take_pair name size line f)
   unfolding take_pair
@@ -178,7 +177,7 @@ module _ (name : List ℕ) (size : ℕ) (text : List ℕ) (none : (pair_file_of 
   pairs-counted = (fair_file size name text).counted none
 
 -- the tables that are held are as good
-pub held_good : {f : PairFile} {r : PairReading} {to from report : List ℕ} (size : ℕ) → HoldsPairs f r to from report → GoodPairs f.list f.to f.from size
+pub held_good : {f : PairFile} {r : Tally} {to from report : List ℕ} (size : ℕ) → HoldsPairs f r to from report → GoodPairs f.list f.to f.from size
     → GoodPairs f.list (λ p. get_or to p 0) (λ q. get_or from q 0) size
 held_good size h g = record {
   olds-once = g.olds-once;

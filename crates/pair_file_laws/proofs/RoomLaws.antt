@@ -15,12 +15,17 @@ use Rattle.text_lines.specs.Messages.{bad_text}
 use Rattle.text_lines.proofs.MessageLaws.{decimal_short}
 use Rattle.offset_file_laws.proofs.RoomLaws.{bad_short}
 use Rattle.pair_lines.specs.Lines.{pair_line_of}
-use Rattle.pair_lines.specs.declared.entry.PairEntry.{PairEntry}
-use Rattle.pair_lines.specs.declared.entry.PairEntry.TheVariants.{Blank, Pair, Says, NotTwoNumbers, TooLarge, CarriageReturn, TooLong, Damaged}
+use Rattle.std.specs.Prelude.{Result, Ok, Err}
+use Rattle.offset_lines.specs.Lines.{fault_text}
+use Rattle.offset_lines.specs.declared.entry.Entry.{Entry}
+use Rattle.offset_lines.specs.declared.entry.Entry.TheVariants.{Blank, Item, Says}
+use Rattle.offset_lines.specs.declared.entry.Fault.{Fault}
+use Rattle.offset_lines.proofs.LineLaws.{fault_short}
+use Rattle.pair_lines.specs.declared.pair.Pair.{Pair}
 use Rattle.pair_files.specs.Messages.{named_text, beyond_text, named_fault, beyond_fault, faults_text, wrong_count}
 use Rattle.pair_files.specs.Files.{PairFile, no_text, blank_line, bad, bad_line, named, accepted, pair_line, said_line, entry_line, take_pair, pair_file_of}
 use Rattle.pair_files.specs.Holds.{HoldsPairs}
-use Rattle.pair_files.specs.declared.reading.PairReading.{PairReading}
+use Rattle.text_lines.specs.declared.tally.Tally.{Tally}
 use Rattle.pair_files.proofs.MessageLaws.{count_short}
 use Rattle.pair_file_laws.proofs.KeepLaws.{text_keeps}
 
@@ -121,16 +126,12 @@ module _ (name : List ℕ) where
         go true = blank_fits
         go false = line_fits (wrong_count n f.pairs) (count_short n f.pairs)
 
-    entry_fits : (e : PairEntry) → Fits (entry_line name body size e f)
-    unfolding entry_line ascii
-    entry_fits Blank = blank_fits
-    entry_fits (Pair old new) = pair_fits old new
-    entry_fits (Says n) = said_fits n
-    entry_fits NotTwoNumbers = line_fits (ascii "not two numbers") (omega arith)
-    entry_fits TooLarge = line_fits (ascii "65536 or above") (omega arith)
-    entry_fits CarriageReturn = line_fits (ascii "a carriage return inside the line") (omega arith)
-    entry_fits TooLong = line_fits (ascii "longer than 2048 bytes") (omega arith)
-    entry_fits Damaged = line_fits (ascii "a damaged last line of a list") (omega arith)
+    entry_fits : (e : Result (Entry Pair) Fault) → Fits (entry_line name body size e f)
+    unfolding entry_line
+    entry_fits (Ok Blank) = blank_fits
+    entry_fits (Ok (Item x)) = pair_fits x.old x.new
+    entry_fits (Ok (Says n)) = said_fits n
+    entry_fits (Err fault) = line_fits (fault_text fault) (fault_short fault)
 
   module _ (size : ℕ) where
     step_fits : (line : List ℕ) (f : PairFile) → Fits f → Fits (take_pair name size line f)
@@ -149,11 +150,11 @@ module _ (name : List ℕ) where
         let m = mul-le-mul_right room n in
         omega (arith, h.fits)
 
-    module _ (text : List ℕ) {r : PairReading} {to from report : List ℕ} (h : HoldsPairs (pair_file_of name size text) r to from report) where
+    module _ (text : List ℕ) {r : Tally} {to from report : List ℕ} (h : HoldsPairs (pair_file_of name size text) r to from report) where
       -- a report that ends before its buffer is whole
       pub held_report : r.report < length report → take r.report report ≡ (pair_file_of name size text).report
-      held_report l = h.reported ∙ take_all r.report (pair_file_of name size text).report (omega (arith, h.report_end))
+      held_report l = h.counts.reported ∙ take_all r.report (pair_file_of name size text).report (omega (arith, h.counts.report_end))
 
       -- and so is any in a buffer of that room
       pub held_room : 20 * room ≤ length report → take r.report report ≡ (pair_file_of name size text).report
-      held_room l = h.reported ∙ take_all r.report (pair_file_of name size text).report (let n = report_room text in omega (arith, h.report_end))
+      held_room l = h.counts.reported ∙ take_all r.report (pair_file_of name size text).report (let n = report_room text in omega (arith, h.counts.report_end))

@@ -7,114 +7,109 @@ use borrow.Author.Tests.{eq-eqb, ne_eqb}
 use lib.Dec.{eqb, ltb}
 use lib.ListN.{length, get_or}
 use Rattle.byte_texts.specs.Ascii.{ascii}
-use Rattle.byte_texts.specs.Texts.{written}
 use Rattle.text_lines.specs.Texts.{more}
-use Rattle.text_lines.specs.Messages.{bad_text}
-use Rattle.text_lines.proofs.ReportLaws.{Reported, reported_first, reported_enough}
+use Rattle.text_lines.specs.Messages.{wrong_text}
+use Rattle.text_lines.specs.Tallies.{Counts, HoldsCounts, blank_counts, bad_counts, said_counts}
+use Rattle.text_lines.specs.declared.tally.Tally.{Tally}
+use Rattle.text_lines.proofs.ReportLaws.{Reported}
 use Rattle.pair_files.specs.Files.{PairFile, blank_line, bad, bad_line, with_word, named, accepted, pair_line, said_line}
-use Rattle.pair_files.specs.Holds.{HoldsPairs}
+use Rattle.pair_files.specs.Holds.{HoldsPairs, counts_of}
 use Rattle.pair_files.specs.Messages.{faults_text, wrong_count}
-use Rattle.pair_files.specs.declared.reading.PairReading.{PairReading}
 use Rattle.pair_files.proofs.TableLaws.{set_word, length_word, word_at}
 
-module _ {f : PairFile} {r : PairReading} {to from report : List ℕ} (h : HoldsPairs f r to from report) where
-  -- what is held of a file says nothing of a line that is not ended; and more lines, and whether a last line of a list is among them, change nothing else
-  pub with_lines : (size : ℕ) {lines k : ℕ} {said t : Bool} → lines ≡ k → said ≡ t
-      → HoldsPairs (record { lines = k; to = f.to; from = f.from; list = f.list; pairs = f.pairs; said = t; bads = f.bads; report = f.report })
-      (record { length = size; lines = lines; pairs = r.pairs; said = said; bads = r.bads; report = r.report })
-      to from report
-  with_lines size e d = record {
-    lines = e;
-    pairs = h.pairs;
-    said = d;
-    bads = h.bads;
-    to_long = h.to_long;
-    to-words = h.to-words;
-    from_long = h.from_long;
-    from-words = h.from-words;
-    report_end = h.report_end;
-    reported = h.reported;
-  }
+-- other counts of the same pairs
+pub with_counts : {f : PairFile} {r : Tally} {to from report : List ℕ} → HoldsPairs f r to from report
+    → (k : Counts) {tally : Tally} {out : List ℕ} → HoldsCounts k tally out
+    → HoldsPairs (record { lines = k.lines; to = f.to; from = f.from; list = f.list; pairs = k.named; said = k.said; bads = k.bads; report = k.report }) tally to from out
+with_counts h k c = record { counts = c; to_long = h.to_long; to-words = h.to-words; from_long = h.from_long; from-words = h.from-words }
 
-  pub blank_holds : (lines : ℕ) → lines ≡ more r.lines
-      → HoldsPairs (blank_line f) (record { length = r.length; lines = lines; pairs = r.pairs; said = r.said; bads = r.bads; report = r.report }) to from report
-  unfolding blank_line
-  blank_holds lines e = with_lines r.length (e ∙ ap more h.lines) h.said
+-- behind the last line of a list
+abbrev closed : PairFile → PairFile
+closed g = record { lines = g.lines; to = g.to; from = g.from; list = g.list; pairs = g.pairs; said = true; bads = g.bads; report = g.report }
 
-  -- ---- a bad line, with what is said of it
+abbrev shut : Counts → Counts
+shut g = record { lines = g.lines; named = g.named; said = true; bads = g.bads; report = g.report }
+
+module _ {f : PairFile} {r : Tally} {to from report : List ℕ} (h : HoldsPairs f r to from report) where
+  -- ---- a line with nothing to say, a line that may not stand there, and the last line of a list
+
+  pub blank_holds : {tally : Tally} → HoldsCounts (blank_counts (counts_of f)) tally report → HoldsPairs (blank_line f) tally to from report
+  unfolding blank_line blank_counts
+  blank_holds c = with_counts h (blank_counts (counts_of f)) c
+
+  pub line-bad : (name full reason : List ℕ) {tally : Tally} {out : List ℕ} → HoldsCounts (bad_counts name full reason (counts_of f)) tally out
+      → HoldsPairs (bad_line name full reason f) tally to from out
+  unfolding bad_line bad blank_line bad_counts
+  line-bad name full reason c = with_counts h (bad_counts name full reason (counts_of f)) c
+
+  pub said_holds : (name full : List ℕ) (says : ℕ) {tally : Tally} {out : List ℕ} → HoldsCounts (said_counts name full says (ascii " pairs and names ") (counts_of f)) tally out
+      → HoldsPairs (said_line name full says f) tally to from out
+  unfolding said_line blank_line bad_line bad said_counts blank_counts bad_counts wrong_count wrong_text
+  said_holds name full says {tally} {out} c = go (eqb says f.pairs) c
+    where
+      go : (t : Bool)
+          → HoldsCounts (shut (cond t (blank_counts (counts_of f)) (bad_counts name full (wrong_text says (ascii " pairs and names ") f.pairs) (counts_of f)))) tally out
+          → HoldsPairs (closed (cond t (blank_line f) (bad_line name full (wrong_count says f.pairs) f))) tally to from out
+      go true c = with_counts h (shut (blank_counts (counts_of f))) c
+      go false c = with_counts h (shut (bad_counts name full (wrong_text says (ascii " pairs and names ") f.pairs) (counts_of f))) c
+
+  -- ---- a bad pair, with what is said of it
 
   pub bad_holds : (text : List ℕ) (bads end : ℕ) (out : List ℕ) → bads ≡ more r.bads → Reported (f.report ++ cond (ltb f.bads 20) text []) end out
-      → HoldsPairs (bad text f) (record { length = r.length; lines = r.lines; pairs = r.pairs; said = r.said; bads = bads; report = end }) to from out
+      → HoldsPairs (bad text f) (record { lines = r.lines; named = r.named; said = r.said; bads = bads; report = end }) to from out
   unfolding bad
-  bad_holds text bads end out b w = record {
-    lines = h.lines;
-    pairs = h.pairs;
-    said = h.said;
-    bads = b ∙ ap more h.bads;
-    to_long = h.to_long;
-    to-words = h.to-words;
-    from_long = h.from_long;
-    from-words = h.from-words;
-    report_end = w.report_end;
-    reported = w.reported;
-  }
-
-  held_report : Reported f.report r.report report
-  held_report = record { report_end = h.report_end; reported = h.reported }
-
-  -- it is among the first 20
-  pub bad_said : (text : List ℕ) {out : List ℕ} {end : ℕ} → r.bads < 20 → record { end = end; out = out } ≡ written report r.report text
-      → Reported (f.report ++ cond (ltb f.bads 20) text []) end out
-  bad_said text l e = reported_first f.report text report r.report f.bads held_report (rw h.bads at l) e
-
-  pub bad_unsaid : (text : List ℕ) → 20 ≤ r.bads → Reported (f.report ++ cond (ltb f.bads 20) text []) r.report report
-  bad_unsaid text g = reported_enough f.report text report r.report f.bads held_report (rw h.bads at g)
+  bad_holds text bads end out b w =
+      with_counts h (record { lines = f.lines; named = f.pairs; said = f.said; bads = more f.bads; report = f.report ++ cond (ltb f.bads 20) text [] })
+      (record {
+        lines = h.counts.lines;
+        named = h.counts.named;
+        said = h.counts.said;
+        bads = b ∙ ap more h.counts.bads;
+        report_end = w.report_end;
+        reported = w.reported;
+      })
 
   -- ---- two offsets
 
   pub named_holds : (old new : ℕ) → old < 65536 → new < 65536 → {lines : ℕ} → lines ≡ more r.lines
       → {to' from' : List ℕ} → to' ≡ set_word to old (lines * 65536 + new) → from' ≡ set_word from new (lines * 65536 + old)
-      → HoldsPairs (named old new f) (record { length = r.length; lines = lines; pairs = r.pairs; said = r.said; bads = r.bads; report = r.report }) to' from' report
+      → HoldsPairs (named old new f) (record { lines = lines; named = r.named; said = r.said; bads = r.bads; report = r.report }) to' from' report
   unfolding named
   named_holds old new l m {lines} e {to'} {from'} a b =
-      let k = e ∙ ap more h.lines in record {
-        lines = k;
-        pairs = h.pairs;
-        said = h.said;
-        bads = h.bads;
+      let k = e ∙ ap more h.counts.lines in record {
+        counts = record {
+          lines = k;
+          named = h.counts.named;
+          said = h.counts.said;
+          bads = h.counts.bads;
+          report_end = h.counts.report_end;
+          reported = h.counts.reported;
+        };
         to_long = ap length a ∙ length_word to old _ ∙ h.to_long;
         to-words = λ p n. ap (λ (ws : List ℕ). get_or ws p 0) a ∙ word_at to f.to old (lines * 65536 + new) h.to_long l h.to-words p n
             ∙ ap (λ (x : ℕ). with_word f.to old (x * 65536 + new) p) k;
         from_long = ap length b ∙ length_word from new _ ∙ h.from_long;
         from-words = λ q n. ap (λ (ws : List ℕ). get_or ws q 0) b ∙ word_at from f.from new (lines * 65536 + old) h.from_long m h.from-words q n
             ∙ ap (λ (x : ℕ). with_word f.from new (x * 65536 + old) q) k;
-        report_end = h.report_end;
-        reported = h.reported;
       }
 
-  pub accepted_holds : (old new pairs : ℕ) → pairs ≡ more r.pairs
-      → HoldsPairs (accepted old new f) (record { length = r.length; lines = r.lines; pairs = pairs; said = r.said; bads = r.bads; report = r.report }) to from report
+  pub accepted_holds : (old new pairs : ℕ) → pairs ≡ more r.named
+      → HoldsPairs (accepted old new f) (record { lines = r.lines; named = pairs; said = r.said; bads = r.bads; report = r.report }) to from report
   unfolding accepted
   accepted_holds old new pairs e = record {
-    lines = h.lines;
-    pairs = e ∙ ap more h.pairs;
-    said = h.said;
-    bads = h.bads;
+    counts = record {
+      lines = h.counts.lines;
+      named = e ∙ ap more h.counts.named;
+      said = h.counts.said;
+      bads = h.counts.bads;
+      report_end = h.counts.report_end;
+      reported = h.counts.reported;
+    };
     to_long = h.to_long;
     to-words = h.to-words;
     from_long = h.from_long;
     from-words = h.from-words;
-    report_end = h.report_end;
-    reported = h.reported;
   }
-
--- a line that may not stand there
-module _ {f : PairFile} {r : PairReading} {to from report : List ℕ} (h : HoldsPairs f r to from report) where
-  pub line-bad : (name full reason : List ℕ) (lines bads end : ℕ) (out : List ℕ) → lines ≡ more r.lines → bads ≡ more r.bads
-      → Reported (f.report ++ cond (ltb f.bads 20) (bad_text name (more f.lines) reason full) []) end out
-      → HoldsPairs (bad_line name full reason f) (record { length = r.length; lines = lines; pairs = r.pairs; said = r.said; bads = bads; report = end }) to from out
-  unfolding bad_line blank_line
-  line-bad name full reason lines bads end out e b w = bad_holds (blank_holds h lines e) (bad_text name (more f.lines) reason full) bads end out b w
 
 -- ---- the two offsets by the words that they had
 
@@ -124,7 +119,7 @@ chosen name full size old new f said passes was came =
     cond said (bad_line name full (ascii "a pair behind the last line of a list") f)
     (cond passes (accepted old new (named old new f)) (bad (faults_text name (more f.lines) size old new was came) (named old new f)))
 
-module _ (name full : List ℕ) (size old new : ℕ) (f : PairFile) {s : PairReading} {to from report : List ℕ} where
+module _ (name full : List ℕ) (size old new : ℕ) (f : PairFile) {s : Tally} {to from report : List ℕ} where
   choose : {said passes : Bool} {was came : ℕ} → said ≡ f.said → passes ≡ (eqb (f.to old) 0 && (eqb (f.from new) 0 && ltb new size)) → was ≡ f.to old → came ≡ f.from new
       → HoldsPairs (chosen name full size old new f said passes was came) s to from report → HoldsPairs (pair_line name full size old new f) s to from report
   unfolding pair_line chosen
@@ -134,12 +129,12 @@ module _ (name full : List ℕ) (size old new : ℕ) (f : PairFile) {s : PairRea
       ∙ ap (λ (t : Bool). chosen name full size old new f f.said t was came) b
       ∙ ap₂ (chosen name full size old new f f.said (eqb (f.to old) 0 && (eqb (f.from new) 0 && ltb new size))) c d) g
 
-module _ {f : PairFile} {r : PairReading} {to from report : List ℕ} (h : HoldsPairs f r to from report) (name full : List ℕ) (size old new : ℕ)
-    {s : PairReading} {to' from' report' : List ℕ} where
+module _ {f : PairFile} {r : Tally} {to from report : List ℕ} (h : HoldsPairs f r to from report) (name full : List ℕ) (size old new : ℕ)
+    {s : Tally} {to' from' report' : List ℕ} where
   pub pair_said : r.said ≡ true → HoldsPairs (bad_line name full (ascii "a pair behind the last line of a list") f) s to' from' report'
       → HoldsPairs (pair_line name full size old new f) s to' from' report'
   unfolding chosen
-  pair_said e g = choose name full size old new f (sym e ∙ h.said) refl refl refl g
+  pair_said e g = choose name full size old new f (sym e ∙ h.counts.said) refl refl refl g
 
   module _ (l : old < 65536) (m : new < 65536) {was came : ℕ} (a : was ≡ get_or to old 0) (b : came ≡ get_or from new 0)
       {passes : Bool} (e : passes ≡ (eqb was 0 && (eqb came 0 && ltb new size))) (d : r.said ≡ false) where
@@ -147,7 +142,7 @@ module _ {f : PairFile} {r : PairReading} {to from report : List ℕ} (h : Holds
     by_words g =
         let c = a ∙ h.to-words old l in
         let k = b ∙ h.from-words new m in
-        choose name full size old new f (sym d ∙ h.said) (e ∙ ap₂ (λ (x y : ℕ). eqb x 0 && (eqb y 0 && ltb new size)) c k) c k g
+        choose name full size old new f (sym d ∙ h.counts.said) (e ∙ ap₂ (λ (x y : ℕ). eqb x 0 && (eqb y 0 && ltb new size)) c k) c k g
 
     pub pair_accepted : passes ≡ true → HoldsPairs (accepted old new (named old new f)) s to' from' report' → HoldsPairs (pair_line name full size old new f) s to' from' report'
     unfolding chosen
@@ -157,19 +152,3 @@ module _ {f : PairFile} {r : PairReading} {to from report : List ℕ} (h : Holds
         → HoldsPairs (pair_line name full size old new f) s to' from' report'
     unfolding chosen named
     pair_refused p g = by_words (rw p g)
-
--- ---- the last line of a list
-
-module _ {f : PairFile} {r : PairReading} {to from report : List ℕ} (h : HoldsPairs f r to from report) (name full : List ℕ) (says : ℕ)
-    {s : PairReading} {to' from' report' : List ℕ} where
-  pub said_right : says ≡ r.pairs → HoldsPairs (blank_line f) s to' from' report'
-      → HoldsPairs (said_line name full says f)
-      (record { length = s.length; lines = s.lines; pairs = s.pairs; said = true; bads = s.bads; report = s.report }) to' from' report'
-  unfolding said_line
-  said_right e g = rw (eq-eqb says f.pairs (e ∙ h.pairs)) (with_lines g s.length g.lines refl)
-
-  pub said_wrong : (says ≡ r.pairs → ⊥) → HoldsPairs (bad_line name full (wrong_count says f.pairs) f) s to' from' report'
-      → HoldsPairs (said_line name full says f)
-      (record { length = s.length; lines = s.lines; pairs = s.pairs; said = true; bads = s.bads; report = s.report }) to' from' report'
-  unfolding said_line
-  said_wrong n g = rw (ne_eqb says f.pairs (λ e. n (e ∙ sym h.pairs))) (with_lines g s.length g.lines refl)

@@ -2,5 +2,4 @@ pub mod TableLaws
 pub mod HoldsLaws
 pub mod MessageLaws
 pub mod CutLaws
-pub mod ReadLaws
 pub mod Examples

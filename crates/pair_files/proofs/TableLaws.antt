@@ -6,11 +6,11 @@ use Prim.Native.Nat.{ℕ, ◌<◌}
 use native.Mathlib.Omega.{arith}
 use borrow.Author.Tests.{eqb-true, eqb-false}
 use lib.Dec.{eqb}
-use lib.ListN.{length, get_or, set as set_at, length-set}
+use lib.ListN.{length, get_or, replicate, set as set_at, length-set}
 use lib.Seq.{get_or-set_same, get_or-set_other}
-use Rattle.blocks.specs.Sweeps.{swept}
-use Rattle.blocks.proofs.BlockLaws.{zeroed, zeroed_is, swept_in}
-use Rattle.pair_files.specs.Files.{with_word}
+use Rattle.std.proofs.lemmas.List.{length-replicate, get_or-replicate}
+use Rattle.pair_files.specs.Files.{no_pairs, with_word}
+use Rattle.pair_files.specs.Holds.{HoldsPairs}
 
 -- a table with an offset's word, where it has none
 abbrev pub set_word : List ℕ → ℕ → ℕ → List ℕ
@@ -36,6 +36,17 @@ word_at table f p word long l e q m = rw (sym (e p l)) (go (eqb (get_or table p 
 
 -- ---- cleared words
 
-pub zero_at : (words : List ℕ) {after : List ℕ} → after ≡ swept 0 (length words) zeroed words → (k : ℕ) → k < length words → get_or after k 0 ≡ 0
-zero_at words e k h =
-    ap (λ (ws : List ℕ). get_or ws k 0) e ∙ swept_in 0 (length words) zeroed words k h (omega arith) h ∙ zeroed_is k (get_or words k 0)
+pub zero_at : (words : List ℕ) {after : List ℕ} → after ≡ replicate (length words) 0 → (k : ℕ) → k < length words → get_or after k 0 ≡ 0
+zero_at words e k h = ap (λ (ws : List ℕ). get_or ws k 0) e ∙ get_or-replicate (length words) k 0 0 h
+
+-- the start of a text
+pub start_holds : (report to from : List ℕ) {to' from' : List ℕ} → length to ≡ 65536 → length from ≡ 65536
+    → to' ≡ replicate (length to) 0 → from' ≡ replicate (length from) 0
+    → HoldsPairs no_pairs (record { lines = 0; named = 0; said = false; bads = 0; report = 0 }) to' from' report
+start_holds report to from t u e f = record {
+  counts = record { lines = refl; named = refl; said = refl; bads = refl; report_end = omega arith; reported = refl };
+  to_long = ap length e ∙ length-replicate (length to) 0 ∙ t;
+  to-words = λ p h. zero_at to e p (omega (arith, t, h));
+  from_long = ap length f ∙ length-replicate (length from) 0 ∙ u;
+  from-words = λ q h. zero_at from f q (omega (arith, u, h));
+}

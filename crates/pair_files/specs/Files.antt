@@ -1,11 +1,14 @@
 -- What a file of pairs is, from its bytes: line by line from the top. `size` is the new length.
-use Rattle.std.specs.Prelude.{Bool, true, false, cond, ◌&&◌, List, [], ◌∷◌, ◌++◌, ℕ, ◌+◌, ◌*◌, eqb, ltb}
+use Rattle.std.specs.Prelude.{Bool, true, false, cond, ◌&&◌, List, [], ◌∷◌, ◌++◌, ℕ, ◌+◌, ◌*◌, eqb, ltb, Result, Ok, Err}
 use Rattle.byte_texts.specs.Ascii.{ascii}
 use Rattle.text_lines.specs.Texts.{Text, more, body_of, take_bytes, at_end}
 use Rattle.text_lines.specs.Messages.{bad_text}
 use Rattle.pair_lines.specs.Lines.{pair_line_of}
-use Rattle.pair_lines.specs.declared.entry.PairEntry.{PairEntry}
-use Rattle.pair_lines.specs.declared.entry.PairEntry.TheVariants.{Blank, Pair, Says, NotTwoNumbers, TooLarge, CarriageReturn, TooLong, Damaged}
+use Rattle.pair_lines.specs.declared.pair.Pair.{Pair}
+use Rattle.offset_lines.specs.Lines.{fault_text}
+use Rattle.offset_lines.specs.declared.entry.Entry.{Entry}
+use Rattle.offset_lines.specs.declared.entry.Entry.TheVariants.{Blank, Item, Says}
+use Rattle.offset_lines.specs.declared.entry.Fault.{Fault}
 use Rattle.renumber_steps.specs.declared.pair.Pair as Pairs
 use Rattle.pair_files.specs.Messages.{faults_text, wrong_count}
 
@@ -89,15 +92,11 @@ said_line name body n f =
     let g = cond (eqb n f.pairs) (blank_line f) (bad_line name body (wrong_count n f.pairs) f) in
     record { lines = g.lines; to = g.to; from = g.from; list = g.list; pairs = g.pairs; said = true; bads = g.bads; report = g.report }
 
-unfoldable pub entry_line : List ℕ → List ℕ → ℕ → PairEntry → PairFile → PairFile
-entry_line name body size Blank f = blank_line f
-entry_line name body size (Pair old new) f = pair_line name body size old new f
-entry_line name body size (Says n) f = said_line name body n f
-entry_line name body size NotTwoNumbers f = bad_line name body (ascii "not two numbers") f
-entry_line name body size TooLarge f = bad_line name body (ascii "65536 or above") f
-entry_line name body size CarriageReturn f = bad_line name body (ascii "a carriage return inside the line") f
-entry_line name body size TooLong f = bad_line name body (ascii "longer than 2048 bytes") f
-entry_line name body size Damaged f = bad_line name body (ascii "a damaged last line of a list") f
+unfoldable pub entry_line : List ℕ → List ℕ → ℕ → Result (Entry Pair) Fault → PairFile → PairFile
+entry_line name body size (Ok Blank) f = blank_line f
+entry_line name body size (Ok (Item pair)) f = pair_line name body size pair.old pair.new f
+entry_line name body size (Ok (Says n)) f = said_line name body n f
+entry_line name body size (Err fault) f = bad_line name body (fault_text fault) f
 
 -- one line more
 unfoldable pub take_pair : List ℕ → ℕ → List ℕ → PairFile → PairFile

@@ -2,3 +2,4 @@ pub mod Messages
 pub mod Files
 pub mod Holds
 pub mod Good
+pub mod Readers

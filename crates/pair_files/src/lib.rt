@@ -1,12 +1,9 @@
-// Reads a text of pairs of an old and a new offset in pieces: a table of each side, and what is said of bad lines.
+// Reads a text of pairs of an old and a new offset line by line: a table of each side, and what is said of bad lines.
 #![tactic(auto)]
 
-mod entries;
 mod lines;
 mod messages;
 mod pairs;
-mod reading;
-mod reads;
+mod reader;
 
-pub use reading::PairReading;
-pub use reads::{finish, start, take};
+pub use reader::PairReader;

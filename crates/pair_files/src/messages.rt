@@ -1,20 +1,10 @@
-#![tactic(auto, using(byte_texts::proofs::TextLaws::written_more), unfolding(byte_texts::specs::Ascii::ascii, crate::specs::Messages::wrong_count, crate::specs::Messages::named_text, crate::specs::Messages::beyond_text))]
+#![tactic(auto, using(byte_texts::proofs::TextLaws::written_more), unfolding(byte_texts::specs::Ascii::ascii, crate::specs::Messages::named_text, crate::specs::Messages::beyond_text))]
 
 ghost use Rattle.byte_texts.specs.Growth.{Appended};
-ghost use Rattle.pair_files.specs.Messages.{named_text, beyond_text, named_fault, beyond_fault, faults_text, wrong_count};
+ghost use Rattle.pair_files.specs.Messages.{named_text, beyond_text, named_fault, beyond_fault, faults_text};
 
 use byte_texts::Text;
 use text_lines::append_place;
-
-// The numbers of a wrong last line.
-pub(crate) fn append_wrong_count(report: &mut Text, says: usize, names: usize)
-    ensures { Appended report.old report.new (wrong_count says names) }
-{
-    report.append(b"says ");
-    report.append_decimal(says as u64);
-    report.append(b" pairs and names ");
-    report.append_decimal(names as u64);
-}
 
 // An offset of a side that an earlier line named.
 fn append_named(report: &mut Text, name: &[u8], line: usize, side: &[u8], offset: usize, first: u64)

@@ -1,78 +1,47 @@
--- What users of a line need: a long line may be cut, and its numbers are in range. Assumes nothing.
-use mathlib.Core.Path.{◌≡◌, refl, ap, subst}
+-- What users of a line need: a long line may be cut, and its offsets are in range. Assumes nothing.
+use mathlib.Core.Path.{◌≡◌, refl}
 use mathlib.Core.Bool.{Bool, true, false, cond, ◌||◌}
-use mathlib.Core.Logic.{◌⊎◌, inl, inr}
 use mathlib.Core.List.{List}
 use Prim.Native.Nat.{ℕ, ◌≤◌, ◌<◌}
-use native.Mathlib.Omega.{arith}
-use borrow.Author.Tests.{ltb-true, ltb-false, lt-ltb, leb-false}
-use lib.Dec.{eqb, leb, ltb}
-use lib.ListN.{length, take, drop, length-take}
-use lib.Seq.{take_all}
+use borrow.Author.Tests.{leb-false}
+use lib.Dec.{eqb, leb}
+use lib.ListN.{take}
+use Rattle.std.specs.Prelude.{Ok, Err}
 use Rattle.byte_texts.specs.Ascii.{ascii}
-use Rattle.offset_lines.specs.Lines.{drop_blanks, starts_with, is_void, said_number, without_return, has_return}
-use Rattle.offset_lines.proofs.Texts.{yes_no}
-use Rattle.pair_lines.specs.Lines.{size_of, number_of, after_number, pair_of, second_of, pair_text, complete_text, text_of, pair_line_of}
-use Rattle.pair_lines.specs.declared.entry.PairEntry.{PairEntry}
-use Rattle.pair_lines.specs.declared.entry.PairEntry.TheVariants.{Blank, Pair, Says, NotTwoNumbers, TooLarge, CarriageReturn, TooLong, Damaged}
-
--- ---- a line cut behind its 2,048th byte is still too long, and a shorter one is not cut
+use Rattle.offset_lines.specs.Lines.{drop_blanks, is_void}
+use Rattle.offset_lines.specs.declared.entry.Entry.TheVariants.{Item}
+use Rattle.offset_lines.specs.declared.entry.Fault.TheVariants.{TooLarge}
+use Rattle.offset_lines.proofs.LineLaws.{cut_line, ItemFair, fair, unfair, either_item, item_is}
+use Rattle.pair_lines.specs.Lines.{size_of, number_of, after_number, pair_of, second_of, pair_text, pair_line_of}
+use Rattle.pair_lines.specs.declared.pair.Pair.{Pair}
 
 pub line_cut : (n : ℕ) (line : List ℕ) → 2049 ≤ n → pair_line_of (take n line) ≡ pair_line_of line
 unfolding pair_line_of
-line_cut n line l = go (yes_no (ltb 2048 (length line)))
-  where
-    go : (ltb 2048 (length line) ≡ true) ⊎ (ltb 2048 (length line) ≡ false) → pair_line_of (take n line) ≡ pair_line_of line
-    go (inl e) =
-        let m = ltb-true 2048 (length line) e in
-        let h = length-take n line in
-        simp (e, lt-ltb 2048 (length (take n line)) (omega arith))
-    go (inr e) = let m = ltb-false 2048 (length line) e in ap pair_line_of (take_all n line (omega arith))
+line_cut n line l = cut_line (ascii " pair") (ascii " pairs") pair_text n line l
 
 -- ---- both offsets of a pair are below 65,536
 
-data InRange : PairEntry → Type 0 where
-  pair : {p q : ℕ} → p < 65536 → q < 65536 → InRange (Pair p q)
-  says : {n : ℕ} → InRange (Says n)
-  blank : InRange Blank
-  no_numbers : InRange NotTwoNumbers
-  too_large : InRange TooLarge
-  returned : InRange CarriageReturn
-  too_long : InRange TooLong
-  damaged : InRange Damaged
+abbrev below : Pair → Type 0
+below x = (x.old < 65536) × (x.new < 65536)
 
-either : (b : Bool) {x y : PairEntry} → (b ≡ true → InRange x) → (b ≡ false → InRange y) → InRange (cond b x y)
-either true f g = f refl
-either false f g = g refl
+small_fair : (old new : ℕ) (s t : Bool) → (s ≡ false → old < 65536) → (t ≡ false → new < 65536)
+    → ItemFair below (cond (s || t) (Err TooLarge) (Ok (record { old = old; new = new })))
+small_fair old new true t l m = unfair
+small_fair old new false true l m = unfair
+small_fair old new false false l m = fair (l refl, m refl)
 
-neither : (x y : Bool) → (x || y) ≡ false → (x ≡ false) × (y ≡ false)
-neither true y e = let z : ◌≡◌ {A = ℕ} 0 1 = cc in absurd (omega arith)
-neither false y e = (refl, e)
-
-pair_range : (olds old news new : ℕ) → InRange (pair_of olds old news new)
+pair_fair : (olds old news new : ℕ) → ItemFair below (pair_of olds old news new)
 unfolding pair_of
-pair_range olds old news new =
-    either (eqb olds 0 || eqb news 0) (λ e. no_numbers)
-    (λ e. either (leb 65536 old || leb 65536 new) (λ e. too_large)
-    (λ e. let n = neither (leb 65536 old) (leb 65536 new) e in pair (leb-false 65536 old n.0) (leb-false 65536 new n.1)))
+pair_fair olds old news new =
+    either_item below (eqb olds 0 || eqb news 0) (λ e. unfair)
+    (small_fair old new (leb 65536 old) (leb 65536 new) (λ e. leb-false 65536 old e) (λ e. leb-false 65536 new e))
 
-text_range : (text : List ℕ) → InRange (text_of text)
-unfolding text_of complete_text pair_text
-text_range text =
-    either (is_void text)
-    (λ e. either (starts_with (ascii "# complete:") text)
-    (λ e. either (leb (said_number (ascii " pair") (ascii " pairs") (drop 11 text)) 65536) (λ e. says) (λ e. damaged)) (λ e. blank))
-    (λ e. either (is_void (drop_blanks (after_number (second_of text))))
-    (λ e. pair_range (size_of text) (number_of text) (size_of (second_of text)) (number_of (second_of text))) (λ e. no_numbers))
+text_fair : (text : List ℕ) → ItemFair below (pair_text text)
+unfolding pair_text
+text_fair text =
+    either_item below (is_void (drop_blanks (after_number (second_of text))))
+    (λ e. pair_fair (size_of text) (number_of text) (size_of (second_of text)) (number_of (second_of text))) unfair
 
-line_range : (line : List ℕ) → InRange (pair_line_of line)
+pub pair_below : (line : List ℕ) (x : Pair) → pair_line_of line ≡ Ok (Item x) → (x.old < 65536) × (x.new < 65536)
 unfolding pair_line_of
-line_range line =
-    either (ltb 2048 (length line)) (λ e. too_long)
-    (λ e. either (has_return (without_return line)) (λ e. returned) (λ e. text_range (drop_blanks (without_return line))))
-
-pub pair_below : (line : List ℕ) (p q : ℕ) → pair_line_of line ≡ Pair p q → (p < 65536) × (q < 65536)
-pair_below line p q e = go (subst InRange e (line_range line))
-  where
-    go : InRange (Pair p q) → (p < 65536) × (q < 65536)
-    go (pair l m) = (l, m)
+pair_below line x e = item_is below (ascii " pair") (ascii " pairs") pair_text text_fair line x e

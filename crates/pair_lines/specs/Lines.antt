@@ -1,9 +1,11 @@
 -- What a line of a text of pairs is. Bytes are numbers; a line has no line feed.
-use Rattle.std.specs.Prelude.{cond, ◌||◌, List, ℕ, eqb, leb, ltb, length, drop}
+use Rattle.std.specs.Prelude.{cond, ◌||◌, List, ℕ, eqb, leb, length, drop, Result, Ok, Err}
 use Rattle.byte_texts.specs.Ascii.{ascii}
-use Rattle.offset_lines.specs.Lines.{drop_blanks, digits_of, after_digits, value_of, starts_with, is_void, said_number, without_return, has_return}
-use Rattle.pair_lines.specs.declared.entry.PairEntry.{PairEntry}
-use Rattle.pair_lines.specs.declared.entry.PairEntry.TheVariants.{Blank, Pair, Says, NotTwoNumbers, TooLarge, CarriageReturn, TooLong, Damaged}
+use Rattle.offset_lines.specs.Lines.{drop_blanks, digits_of, after_digits, value_of, starts_with, is_void, line_by}
+use Rattle.offset_lines.specs.declared.entry.Entry.{Entry}
+use Rattle.offset_lines.specs.declared.entry.Fault.{Fault}
+use Rattle.offset_lines.specs.declared.entry.Fault.TheVariants.{NotTwoNumbers, TooLarge}
+use Rattle.pair_lines.specs.declared.pair.Pair.{Pair}
 
 -- a text that starts with a number: its base, and the text without `0x`
 unfoldable pub base_of : List ℕ → ℕ
@@ -23,25 +25,17 @@ unfoldable pub after_number : List ℕ → List ℕ
 after_number text = after_digits (base_of text) (bare_of text)
 
 -- two numbers of so many digits: none are no number, and a value from 65,536 up is too large
-unfoldable pub pair_of : ℕ → ℕ → ℕ → ℕ → PairEntry
-pair_of olds old news new = cond (eqb olds 0 || eqb news 0) NotTwoNumbers (cond (leb 65536 old || leb 65536 new) TooLarge (Pair old new))
+unfoldable pub pair_of : ℕ → ℕ → ℕ → ℕ → Result Pair Fault
+pair_of olds old news new = cond (eqb olds 0 || eqb news 0) (Err NotTwoNumbers) (cond (leb 65536 old || leb 65536 new) (Err TooLarge) (Ok (record { old = old; new = new })))
 
 -- a text of two numbers, and behind them nothing or a comment. What stands right behind digits is no digit: blanks part the two
 unfoldable pub second_of : List ℕ → List ℕ
 second_of text = drop_blanks (after_number text)
 
-unfoldable pub pair_text : List ℕ → PairEntry
+unfoldable pub pair_text : List ℕ → Result Pair Fault
 pair_text text =
-    cond (is_void (drop_blanks (after_number (second_of text)))) (pair_of (size_of text) (number_of text) (size_of (second_of text)) (number_of (second_of text))) NotTwoNumbers
+    cond (is_void (drop_blanks (after_number (second_of text)))) (pair_of (size_of text) (number_of text) (size_of (second_of text)) (number_of (second_of text))) (Err NotTwoNumbers)
 
--- what stands behind `# complete:` in the last line of a list
-unfoldable pub complete_text : List ℕ → PairEntry
-complete_text rest = cond (leb (said_number (ascii " pair") (ascii " pairs") rest) 65536) (Says (said_number (ascii " pair") (ascii " pairs") rest)) Damaged
-
--- a text from its first byte that is not blank
-unfoldable pub text_of : List ℕ → PairEntry
-text_of text = cond (is_void text) (cond (starts_with (ascii "# complete:") text) (complete_text (drop 11 text)) Blank) (pair_text text)
-
--- a line has at most 2,048 bytes, and a carriage return only at its end
-unfoldable pub pair_line_of : List ℕ → PairEntry
-pair_line_of line = cond (ltb 2048 (length line)) TooLong (cond (has_return (without_return line)) CarriageReturn (text_of (drop_blanks (without_return line))))
+-- a line of pairs
+unfoldable pub pair_line_of : List ℕ → Result (Entry Pair) Fault
+pair_line_of line = line_by (ascii " pair") (ascii " pairs") pair_text line

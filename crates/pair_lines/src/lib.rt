@@ -1,9 +1,9 @@
 // What a line of a text of pairs is: nothing, an old offset and a new one, the last line of a list, or no line that may stand there.
 #![tactic(auto)]
 
-mod entry;
 mod lines;
 mod numbers;
+mod pair;
 
-pub use entry::PairEntry;
 pub use lines::parse_pair;
+pub use pair::Pair;

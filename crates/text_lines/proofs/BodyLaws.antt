@@ -28,7 +28,7 @@ shown_cut n line h = go (lt-or-le 40 (length line))
 abbrev pub mark : List ℕ
 mark = 239 ∷ 187 ∷ 191 ∷ []
 
-pub mark_short : (line : List ℕ) → length line < 3 → false ≡ starts_with mark line
+mark_short : (line : List ℕ) → length line < 3 → false ≡ starts_with mark line
 unfolding starts_with
 mark_short [] h = refl
 mark_short (a ∷ []) h = either (eqb 239 a)
@@ -43,20 +43,6 @@ mark_short (a ∷ b ∷ []) h = either (eqb 239 a) (eqb 187 b)
     either true false = refl
     either false u = refl
 mark_short (a ∷ b ∷ c ∷ rest) h = absurd (omega arith)
-
-pub mark_at : (line : List ℕ) → 3 ≤ length line → starts_with mark line ≡ (eqb 239 (get_or line 0 0) && (eqb 187 (get_or line 1 0) && (eqb 191 (get_or line 2 0) && true)))
-unfolding starts_with
-mark_at [] h = absurd (omega arith)
-mark_at (a ∷ []) h = absurd (omega arith)
-mark_at (a ∷ b ∷ []) h = absurd (omega arith)
-mark_at (a ∷ b ∷ c ∷ rest) h = refl
-
-pub mark_last : (b : ℕ) → eqb b 191 ≡ (eqb 191 b && true)
-mark_last b = go (eqb b 191) refl
-  where
-    go : (t : Bool) → eqb b 191 ≡ t → t ≡ (eqb 191 b && true)
-    go true e = rw (eq-eqb 191 b (sym (eqb-true b 191 e))) refl
-    go false e = rw (ne_eqb 191 b (λ z. eqb-false b 191 e (sym z))) refl
 
 mark_cut : (line : List ℕ) → starts_with mark (take 2052 line) ≡ starts_with mark line
 unfolding starts_with

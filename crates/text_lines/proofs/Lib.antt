@@ -3,3 +3,5 @@ pub mod RestLaws
 pub mod PieceLaws
 pub mod ReportLaws
 pub mod MessageLaws
+pub mod TallyLaws
+pub mod ReaderLaws

@@ -6,3 +6,7 @@ use Rattle.byte_texts.specs.Texts.{decimal, shown_text}
 -- a line that may not stand there
 unfoldable pub bad_text : List ℕ → ℕ → List ℕ → List ℕ → List ℕ
 bad_text name k reason body = ascii "ERROR: " ++ name ++ ascii ", line " ++ decimal k ++ ascii ": " ++ reason ++ ascii ": " ++ shown_text body ++ ascii "\n"
+
+-- a list whose last line has another number than it names items: `items` are the words between the two
+unfoldable pub wrong_text : ℕ → List ℕ → ℕ → List ℕ
+wrong_text says items names = ascii "says " ++ decimal says ++ items ++ decimal names

@@ -4,7 +4,13 @@
 mod bytes;
 mod messages;
 mod numbers;
+mod open_line;
+mod readers;
+mod tally;
 
-pub use bytes::{keep_byte, starts_with_mark};
+pub use bytes::starts_with_mark;
 pub use messages::{append_bad, append_place};
 pub use numbers::more;
+pub use open_line::OpenLine;
+pub use readers::{LineReader, finish, take};
+pub use tally::Tally;

@@ -1,21 +1,11 @@
-use mathlib.Core.Path.{ap, ◌∙◌}
-use Rattle.byte_texts.specs.Texts.{written}
-use Rattle.text_lines.specs.Texts.{more}
-use Rattle.text_lines.specs.Messages.{bad_text}
-use Prim.Native.Nat.{ℕ}
-use Rattle.offset_files.proofs.HoldsLaws.{bad_holds, bad_said, bad_unsaid}
-use Rattle.text_lines.proofs.MessageLaws.{bad_shown}
+use Rattle.text_lines.specs.Tallies.{bad_counts}
+use Rattle.offset_files.specs.Files.{bad_line}
+use Rattle.offset_files.specs.Holds.{counts_of}
+use Rattle.offset_files.proofs.HoldsLaws.{with_counts}
 use Rattle.offset_files.proofs.entries.bad_line.Goals as goal
 
-pub returns-then-reading-lt20 : goal.returns-then-reading-lt20
-returns-then-reading-lt20 c = λ f full words table e h.
+pub returns : goal.returns
+unfolding bad_line bad_counts
+returns c = λ f full words table e h.
     let a = c.args in
-    let line = c.more.ensures in
-    bad_holds h _ full _ _ _ _ _ line c.more-2.ensures
-    (bad_said h _ c.if-reading-lt20.true
-    (c.append_bad.ensures ∙ ap (written a.report.now a.reading.report)
-    (bad_shown a.name.now _ a.reason.now a.body.now full e ∙ ap (λ (k : ℕ). bad_text a.name.now k a.reason.now full) (line ∙ ap more h.lines))))
-
-pub returns-else-reading-lt20 : goal.returns-else-reading-lt20
-returns-else-reading-lt20 c = λ f full words table e h.
-    bad_holds h _ full _ _ _ _ _ c.more.ensures c.more-2.ensures (bad_unsaid h _ c.if-reading-lt20.false)
+    with_counts h (bad_counts a.name.now full a.reason.now (counts_of f)) (c.bad_line.ensures (counts_of f) full e h.counts)

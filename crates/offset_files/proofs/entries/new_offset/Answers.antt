@@ -21,4 +21,4 @@ pub returns : goal.returns
 returns c = λ f report l z h.
     let a = c.args in
     new_holds h a.offset l c.more-line.ensures c.more.ensures
-    (c.insert.ensures ∙ ap (λ (set : FixedBitSet). insert_rule set a.words.now a.offset) c.new.ensures)
+    (c.insert-accepted.ensures ∙ ap (λ (set : FixedBitSet). insert_rule set a.words.now a.offset) c.new.ensures)

@@ -1,9 +1,12 @@
-use Rattle.offset_files.proofs.EntryLaws.{said_right, said_wrong}
+use mathlib.Core.Path.{refl}
+use Rattle.byte_texts.specs.Ascii.{ascii}
+use lib.Dec.{lit≤}
+use Rattle.offset_files.specs.Holds.{counts_of}
+use Rattle.offset_files.proofs.HoldsLaws.{with_counts, said_holds}
 use Rattle.offset_files.proofs.entries.said_line.Goals as goal
 
-pub returns-then-says-reading : goal.returns-then-says-reading
-returns-then-says-reading c = λ f full words table e h. said_right h _ full _ c.if-says-reading.true (c.blank_line-next.ensures f words table _ h)
-
-pub returns-else-says-reading : goal.returns-else-says-reading
-returns-else-says-reading c = λ f full words table e h.
-    said_wrong h _ full _ c.if-says-reading.false (c.wrong_count_line-next.ensures f full words table e h)
+pub returns : goal.returns
+unfolding ascii
+returns c = λ f full words table e h.
+    let a = c.args in
+    said_holds h a.name.now full a.says (c.said_line.ensures (counts_of f) full (lit≤ tt) e h.counts)

@@ -20,12 +20,12 @@ overflow_add-table c = omega (arith, (c.slice_known-3-1.given c.args.offset).fit
 pub returns-then-reading-lt20 : goal.returns-then-reading-lt20
 returns-then-reading-lt20 c = λ f words l z h.
     let a = c.args in
-    let line = c.more.ensures in
-    second_holds h a.name.now a.offset l _ _ _ _ line c.more-2.ensures
+    let line = c.more-line.ensures in
+    second_holds h a.name.now a.offset l _ _ _ _ line c.more.ensures
     (repeat_said h _ c.if-reading-lt20.true
-    (c.append_repeat.ensures
-    ∙ ap₂ (λ (k n : ℕ). written a.report.now a.reading.report (repeat_text a.name.now k a.offset n)) (line ∙ ap more h.lines) (first_is h a.offset l)))
+    (c.say_repeat-next.ensures
+    ∙ ap₂ (λ (k n : ℕ). written a.report.now a.reading.tally.report (repeat_text a.name.now k a.offset n)) (line ∙ ap more h.counts.lines) (first_is h a.offset l)))
 
 pub returns-else-reading-lt20 : goal.returns-else-reading-lt20
 returns-else-reading-lt20 c = λ f words l z h.
-    second_holds h _ _ l _ _ _ _ c.more.ensures c.more-2.ensures (repeat_unsaid h _ c.if-reading-lt20.false)
+    second_holds h _ _ l _ _ _ _ c.more-line.ensures c.more.ensures (repeat_unsaid h _ c.if-reading-lt20.false)

@@ -1,32 +1,33 @@
-use mathlib.Core.Path.{sym, ◌∙◌}
-use mathlib.Core.Bool.{and-false}
+use mathlib.Core.Path.{◌≡◌, sym, ◌∙◌}
+use mathlib.Core.Bool.{true, false, ◌||◌}
 use native.Mathlib.Omega.{arith}
-use borrow.Author.Tests.{lt-ltb, le-leb, lt-leb}
-use Rattle.offset_lines.specs.Lines.{said_of}
+use borrow.Author.Tests.{lt-ltb}
+use Rattle.offset_lines.specs.Lines.{said_of, is_text}
 use Rattle.offset_lines.proofs.last_lines.said_of.Goals as goal
+use Rattle.offset_lines.proofs.last_lines.said_of.Goals.{then-is_text, else-is_text}
 
-pub returns-then-count-eq0 : goal.returns-then-count-eq0
+pub returns-then-digits-eq0 : goal.returns-then-digits-eq0
 unfolding said_of
-returns-then-count-eq0 c = simp c.if-count-eq0.true
-
-pub returns-then-value-gt65536 : goal.returns-then-value-gt65536
-unfolding said_of
-returns-then-value-gt65536 c = simp (lt-leb _ 65536 c.if-value-gt65536.true, and-false)
-
-pub returns-then-is_text : goal.returns-then-is_text
-unfolding said_of
-returns-then-is_text c = simp (lt-ltb 0 c.args.count (omega arith), le-leb _ 65536 c.if-value-gt65536.false, sym c.is_text.ensures ∙ c.if-is_text.true)
+returns-then-digits-eq0 c = λ v e. simp c.if-digits-eq0.true
 
 pub returns-then-is_text-2 : goal.returns-then-is_text-2
 unfolding said_of
-returns-then-is_text-2 c =
-    simp (
-      lt-ltb 0 c.args.count (omega arith),
-      le-leb _ 65536 c.if-value-gt65536.false,
-      sym c.is_text.ensures ∙ c.if-is_text.false,
-      sym c.is_text-2.ensures ∙ c.if-is_text-2.true,
-    )
+returns-then-is_text-2 c = λ v e.
+    let a = c.args in
+    let either : (is_text a.one.now a.word.now || is_text a.many.now a.word.now) ≡ true =
+    elim c.if-is_text.branch [
+      | then-is_text w ↦ rw (sym c.is_text.ensures ∙ w.if-is_text.true)
+      | else-is_text w ↦ rw (sym c.is_text.ensures ∙ w.if-is_text.false) (sym w.is_text-else-is_text.ensures ∙ sym w.value-is ∙ c.if-is_text-2.true)
+    ] in
+    simp (lt-ltb 0 a.digits.count (omega arith), either) e
 
-pub returns : goal.returns
+pub returns-else-is_text-2 : goal.returns-else-is_text-2
 unfolding said_of
-returns c = simp (sym c.is_text.ensures ∙ c.if-is_text.false, sym c.is_text-2.ensures ∙ c.if-is_text-2.false, and-false)
+returns-else-is_text-2 c = λ v e.
+    let a = c.args in
+    let neither : (is_text a.one.now a.word.now || is_text a.many.now a.word.now) ≡ false =
+    elim c.if-is_text.branch [
+      | then-is_text w ↦ let z = sym w.value-is ∙ c.if-is_text-2.false in cc
+      | else-is_text w ↦ rw (sym c.is_text.ensures ∙ w.if-is_text.false) (sym w.is_text-else-is_text.ensures ∙ sym w.value-is ∙ c.if-is_text-2.false)
+    ] in
+    simp (lt-ltb 0 a.digits.count (omega arith), neither)

@@ -1,13 +1,11 @@
-use mathlib.Core.Path.{sym}
-use borrow.Author.Tests.{le-leb, lt-leb}
-use Rattle.byte_texts.specs.Ascii.{ascii}
-use Rattle.offset_lines.specs.Lines.{complete_text}
+use mathlib.Core.Path.{sym, ap, ◌∙◌}
+use Rattle.offset_lines.specs.Lines.{complete_text, says_of}
 use Rattle.offset_lines.proofs.lines.complete_text.Goals as goal
 
-pub returns-then-says-le65536 : goal.returns-then-says-le65536
-unfolding complete_text ascii
-returns-then-says-le65536 c = rw (sym c.said_number-says.ensures, le-leb _ 65536 c.if-says-le65536.true)
+pub returns-in-Some : goal.returns-in-Some
+unfolding complete_text
+returns-in-Some g c = ap says_of (sym (sym c.said_number.ensures ∙ c.in-Some.is))
 
-pub returns : goal.returns
-unfolding complete_text ascii
-returns c = rw (sym c.said_number-says.ensures, lt-leb _ 65536 c.if-says-le65536.false)
+pub returns-in-None : goal.returns-in-None
+unfolding complete_text
+returns-in-None g c = ap says_of (sym (sym c.said_number.ensures ∙ c.in-None.is))

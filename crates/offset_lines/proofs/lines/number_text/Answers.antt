@@ -1,17 +1,24 @@
-use mathlib.Core.Path.{sym, ◌∙◌}
-use Rattle.offset_lines.proofs.Parts.{count_within, number_is, number-not}
+use mathlib.Core.Path.{sym, ap, ◌∙◌}
+use Rattle.offset_lines.specs.Lines.{drop_blanks, is_void, number_of, number_text}
+use Rattle.offset_lines.proofs.Parts.{count_within, rest_is, told_is}
 use Rattle.offset_lines.proofs.lines.number_text.Goals as goal
 
-pub slice_bounds-rest-count : goal.slice_bounds-rest-count
-slice_bounds-rest-count c = count_within _ _ _ c.read_digits-digits.ensures
+pub slice_bounds-skip_blanks-count : goal.slice_bounds-skip_blanks-count
+slice_bounds-skip_blanks-count c = count_within _ _ _ c.read_digits-digits.ensures
 
-pub slice_bounds-rest-start : goal.slice_bounds-rest-start
-slice_bounds-rest-start c = count_within _ _ _ c.read_digits-digits.ensures
+pub slice_bounds-skip_blanks-start : goal.slice_bounds-skip_blanks-start
+slice_bounds-skip_blanks-start c = count_within _ _ _ c.read_digits-digits.ensures
 
 pub returns-then-is_void : goal.returns-then-is_void
+unfolding number_text
 returns-then-is_void c =
-    c.number_of.ensures
-    ∙ number_is _ _ _ c.read_digits-digits.ensures _ c.skip_blanks-at.ensures.1 (sym c.is_void.ensures ∙ c.if-is_void.true)
+    let r = c.read_digits-digits.ensures in
+    let s = c.skip_blanks.ensures ∙ ap drop_blanks (rest_is _ _ _ r) in
+    simp (sym (ap is_void s) ∙ sym c.is_void.ensures ∙ c.if-is_void.true) (told_is _ _ _ r _ number_of c.number_of.ensures)
 
-pub returns : goal.returns
-returns c = number-not _ _ _ c.read_digits-digits.ensures _ c.skip_blanks-at.ensures.1 (sym c.is_void.ensures ∙ c.if-is_void.false)
+pub returns-else-is_void : goal.returns-else-is_void
+unfolding number_text
+returns-else-is_void c =
+    let r = c.read_digits-digits.ensures in
+    let s = c.skip_blanks.ensures ∙ ap drop_blanks (rest_is _ _ _ r) in
+    simp (sym (ap is_void s) ∙ sym c.is_void.ensures ∙ c.if-is_void.false)

@@ -1,32 +1,25 @@
-use Prim.Native.Nat.{◌*◌, ◌≤◌}
-use native.Mathlib.Nat.{mul-le-mul}
+use mathlib.Core.Path.{sym, ◌∙◌}
+use native.Mathlib.Nat.{min_comm}
 use native.Mathlib.Omega.{arith}
-use Rattle.offset_lines.proofs.DigitLaws.{digit_is, digit_not, read_start, read_next, read-not, read_end}
+use Rattle.offset_lines.proofs.DigitLaws.{digit_some, digit_none, read_next, read_as, none-not, none_end}
 use Rattle.offset_lines.proofs.scans.read_digits.Goals as goal
-use Rattle.offset_lines.proofs.scans.read_digits.Goals.{Else-next-gt15}
+use Rattle.offset_lines.proofs.scans.read_digits.Goals.{else-loop-byte-test, then-loop-byte-test+in_default}
 
-product : (c : Else-next-gt15) → c.loop-count.value * c.args.base ≤ 65537 * 255
-product c = let b : c.args.base ≤ 255 = omega arith in mul-le-mul c.loop-count.invariant.small b
-
-pub loop-count-init : goal.loop-count-init
-loop-count-init c = read_start _ _
-
-pub returns-then-next-gt15 : goal.returns-then-next-gt15
-returns-then-next-gt15 c =
-    let at = c.loop-count in
-    read-not at.invariant c.loop-count-test.true (digit_not _ _ _ c.digit-next.ensures c.if-next-gt15.true)
-
-pub overflow_mul-value : goal.overflow_mul-value
-overflow_mul-value c = omega (arith, product (goal.at.overflow_mul-value c).Else-next-gt15)
-
-pub overflow_add-value : goal.overflow_add-value
-overflow_add-value c = omega (arith, product (goal.at.overflow_add-value c).Else-next-gt15)
-
-pub loop-count-preserved : goal.loop-count-preserved
-loop-count-preserved c =
-    let at = c.loop-count in
-    let d = digit_is _ _ _ c.digit-next.ensures c.if-next-gt15.false in
-    rw (c.capped-value.ensures, d.1) (read_next at.invariant c.loop-count-test.true d.0)
+pub loop-byte-preserved : goal.loop-byte-preserved
+loop-byte-preserved c =
+    let at = c.loop-byte in
+    let i = at.invariant.index in
+    let d = digit_some _ _ _ (sym c.digit.ensures ∙ c.in-Some.is) in
+    record {
+      read = rw (c.min-value.ensures, min_comm, sym d.1, sym i) (read_next at.invariant.read (omega (arith, c.loop-byte-test.true)) (rw (sym i) at d.0));
+      index = omega (arith, i);
+    }
 
 pub returns : goal.returns
-returns c = read_end c.loop-count.invariant c.loop-count-test.false
+returns c =
+    let at = c.loop-byte.invariant in
+    elim c.loop-byte-test.branch [
+      | else-loop-byte-test w ↦ read_as at.read (none_end at.read (omega (arith, at.index, w.loop-byte-test.false))) _ c.held_value.ensures
+      | then-loop-byte-test+in_default w ↦
+          read_as at.read (none-not at.read (omega (arith, at.index, w.loop-byte-test.true)) (rw (sym at.index) at (digit_none _ _ (sym w.digit.ensures ∙ w.in_default.is)))) _ c.held_value.ensures
+    ]

@@ -1,11 +1,7 @@
--- The bytes before `count` are digits of that value.
-use Prim.Native.Nat.{◌-◌}
-use lib.ListN.{length}
+-- The bytes so far are digits of that value.
+use Rattle.std.proofs.Common.{◌≡◌}
 use Rattle.offset_lines.proofs.DigitLaws.{Read}
 use Rattle.offset_lines.proofs.scans.read_digits.Given as goal
 
-abbrev pub invariant-loop-count : goal.invariant-loop-count
-invariant-loop-count l = Read l.base l.text l.count l.value
-
-abbrev pub decreases-loop-count : goal.decreases-loop-count
-decreases-loop-count l = length l.text - l.count
+abbrev pub invariant-loop-byte : goal.invariant-loop-byte
+invariant-loop-byte l = record { read : Read l.base l.text l.count l.value; index : l.count ≡ l.byte-index }

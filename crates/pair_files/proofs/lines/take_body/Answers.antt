@@ -1,50 +1,38 @@
-use mathlib.Core.Path.{sym, ◌∙◌}
-use Rattle.byte_texts.specs.Ascii.{ascii}
-use Rattle.pair_lines.specs.declared.entry.PairEntry.TheVariants.{Blank, Pair, Says, NotTwoNumbers, TooLarge, CarriageReturn, TooLong, Damaged}
+use mathlib.Core.Path.{sym, ap, subst, ◌∙◌}
+use mathlib.Core.List.{List}
+use Prim.Native.Nat.{ℕ}
+use Rattle.std.specs.Prelude.{Ok, Err}
+use Rattle.offset_lines.specs.declared.entry.Entry.TheVariants.{Blank, Item, Says}
 use Rattle.pair_lines.proofs.LineLaws.{pair_below}
-use Rattle.pair_files.specs.Files.{entry_line}
+use Rattle.pair_files.specs.Files.{entry_line, bad_line}
+use Rattle.pair_files.specs.Holds.{HoldsPairs, counts_of}
+use lib.Dec.{lit≤}
+use Rattle.byte_texts.specs.Ascii.{ascii}
+use Rattle.pair_files.proofs.HoldsLaws.{blank_holds, line-bad, said_holds}
 use Rattle.pair_files.proofs.CutLaws.{entry_as}
 use Rattle.pair_files.proofs.lines.take_body.Goals as goal
 
-pub returns-in-Blank : goal.returns-in-Blank
+pub returns-in-Ok-Blank : goal.returns-in-Ok-Blank
 unfolding entry_line
-returns-in-Blank c =
-    λ f full e shown h. entry_as _ full _ f Blank (sym e ∙ sym c.parse_pair.ensures ∙ c.in-Blank.is) (c.blank_line.ensures f _ _ _ h)
+returns-in-Ok-Blank c = λ f full e shown h.
+    entry_as _ full _ f (Ok Blank) (sym e ∙ sym c.parse_pair.ensures ∙ c.in-Ok-Blank.is ∙ ap Ok c.in-Ok-Blank.field-0-is) (blank_holds h (c.blank_line.ensures (counts_of f) _ h.counts))
 
-pub returns-in-Pair : goal.returns-in-Pair
+pub returns-in-Ok-Item : goal.returns-in-Ok-Item
 unfolding entry_line
-returns-in-Pair c =
-    λ f full e shown h.
-    let is = sym c.parse_pair.ensures ∙ c.in-Pair.is in
-    let small = pair_below _ _ _ is in
-    entry_as _ full _ f (Pair _ _) (sym e ∙ is) (c.pair_line.ensures f full shown small.0 small.1 h)
+returns-in-Ok-Item c = λ f full e shown h.
+    let is = sym c.parse_pair.ensures ∙ c.in-Ok-Item.is ∙ ap Ok c.in-Ok-Item.field-0-is in
+    let small = pair_below _ _ is in
+    entry_as _ full _ f (Ok (Item _)) (sym e ∙ is) (c.pair_line.ensures f full shown small.0 small.1 h)
 
-pub returns-in-Says : goal.returns-in-Says
+pub returns-in-Ok-Says : goal.returns-in-Ok-Says
+unfolding entry_line ascii
+returns-in-Ok-Says c = λ f full e shown h.
+    entry_as _ full _ f (Ok (Says _)) (sym e ∙ sym c.parse_pair.ensures ∙ c.in-Ok-Says.is ∙ ap Ok c.in-Ok-Says.field-0-is) (said_holds h c.args.name.now full _ (c.said_line.ensures (counts_of f) full (lit≤ tt) shown h.counts))
+
+pub returns-in-Err : goal.returns-in-Err
 unfolding entry_line
-returns-in-Says c =
-    λ f full e shown h. entry_as _ full _ f (Says _) (sym e ∙ sym c.parse_pair.ensures ∙ c.in-Says.is) (c.said_line.ensures f full _ _ shown h)
-
-pub returns-in-NotTwoNumbers : goal.returns-in-NotTwoNumbers
-unfolding entry_line ascii
-returns-in-NotTwoNumbers c =
-    λ f full e shown h. entry_as _ full _ f NotTwoNumbers (sym e ∙ sym c.parse_pair.ensures ∙ c.in-NotTwoNumbers.is) (c.bad_line.ensures f full _ _ shown h)
-
-pub returns-in-TooLarge : goal.returns-in-TooLarge
-unfolding entry_line ascii
-returns-in-TooLarge c =
-    λ f full e shown h. entry_as _ full _ f TooLarge (sym e ∙ sym c.parse_pair.ensures ∙ c.in-TooLarge.is) (c.bad_line-in-TooLarge.ensures f full _ _ shown h)
-
-pub returns-in-CarriageReturn : goal.returns-in-CarriageReturn
-unfolding entry_line ascii
-returns-in-CarriageReturn c =
-    λ f full e shown h. entry_as _ full _ f CarriageReturn (sym e ∙ sym c.parse_pair.ensures ∙ c.in-CarriageReturn.is) (c.bad_line-in-CarriageReturn.ensures f full _ _ shown h)
-
-pub returns-in-TooLong : goal.returns-in-TooLong
-unfolding entry_line ascii
-returns-in-TooLong c =
-    λ f full e shown h. entry_as _ full _ f TooLong (sym e ∙ sym c.parse_pair.ensures ∙ c.in-TooLong.is) (c.bad_line-in-TooLong.ensures f full _ _ shown h)
-
-pub returns-in-Damaged : goal.returns-in-Damaged
-unfolding entry_line ascii
-returns-in-Damaged c =
-    λ f full e shown h. entry_as _ full _ f Damaged (sym e ∙ sym c.parse_pair.ensures ∙ c.in-Damaged.is) (c.bad_line-in-Damaged.ensures f full _ _ shown h)
+returns-in-Err c = λ f full e shown h.
+    let a = c.args in
+    entry_as _ full _ f (Err c.in-Err.fault) (sym e ∙ sym c.parse_pair.ensures ∙ c.in-Err.is)
+    (subst (λ (reason : List ℕ). HoldsPairs (bad_line a.name.now full reason f) c.bad_line.result a.to.now a.from.now c.bad_line.new.report) c.fault_text.ensures
+    (line-bad h a.name.now full _ (c.bad_line.ensures (counts_of f) full shown h.counts)))

@@ -5,7 +5,7 @@ use Rattle.pair_lines.proofs.LineLaws.{line_cut}
 use Rattle.text_lines.proofs.BodyLaws.{mark_long, held_decides, body_decides, marked_body, plain_body}
 use Rattle.pair_files.proofs.CutLaws.{taken_as}
 use Rattle.pair_files.proofs.lines.take_line.Goals as goal
-use Rattle.pair_files.proofs.lines.take_line.Goals.{then-reading-eq0+else-starts_with_mark, else-reading-eq0}
+use Rattle.pair_files.proofs.lines.take_line.Goals.{then-tally-eq0+else-starts_with_mark, else-tally-eq0}
 
 pub slice_bounds-take_body-count : goal.slice_bounds-take_body-count
 slice_bounds-take_body-count c = mark_long _ (sym c.starts_with_mark.ensures ∙ c.if-starts_with_mark.true)
@@ -17,7 +17,7 @@ pub returns-then-starts_with_mark : goal.returns-then-starts_with_mark
 returns-then-starts_with_mark c =
     λ f full e h.
     let d = body_decides pair_line_of line_cut full e in
-    taken_as _ full _ f _ (marked_body f.lines full e (sym h.lines ∙ c.if-reading-eq0.true) (sym c.starts_with_mark.ensures ∙ c.if-starts_with_mark.true))
+    taken_as _ full _ f _ (marked_body f.lines full e (sym h.counts.lines ∙ c.if-tally-eq0.true) (sym c.starts_with_mark.ensures ∙ c.if-starts_with_mark.true))
     (c.take_body.ensures f _ d.is d.shown h)
 
 pub returns : goal.returns
@@ -26,8 +26,8 @@ returns c =
     let d = held_decides pair_line_of line_cut full e in
     taken_as _ full _ f full
     (plain_body f.lines full e
-    (elim c.if-reading-eq0.branch [
-      | then-reading-eq0+else-starts_with_mark w ↦ inr (sym w.starts_with_mark.ensures ∙ w.if-starts_with_mark.false)
-      | else-reading-eq0 w ↦ inl (λ z. w.if-reading-eq0.false (h.lines ∙ z))
+    (elim c.if-tally-eq0.branch [
+      | then-tally-eq0+else-starts_with_mark w ↦ inr (sym w.starts_with_mark.ensures ∙ w.if-starts_with_mark.false)
+      | else-tally-eq0 w ↦ inl (λ z. w.if-tally-eq0.false (h.counts.lines ∙ z))
     ]))
     (c.take_body-2.ensures f full d.is d.shown h)

@@ -11,17 +11,17 @@ returns-then-from-new c = λ f report l m h. absurd (omega (arith, h.from_long, 
 
 pub overflow_mul-line : goal.overflow_mul-line
 unfolding more
-overflow_mul-line c = omega (arith, c.more.ensures)
+overflow_mul-line c = omega (arith, c.more-lines.ensures)
 
 pub overflow_add-line : goal.overflow_add-line
 unfolding more
-overflow_add-line c = omega (arith, c.more.ensures)
+overflow_add-line c = omega (arith, c.more-lines.ensures)
 
 pub overflow_add-line-2 : goal.overflow_add-line-2
 unfolding more
 overflow_add-line-2 c =
-    omega (arith, c.more.ensures)
+    omega (arith, c.more-lines.ensures)
 
 pub returns : goal.returns
 returns c =
-    λ f report l m h. named_holds h c.args.old c.args.new l m c.more.ensures c.name_offset.ensures c.name_offset-2.ensures
+    λ f report l m h. named_holds h c.args.old c.args.new l m c.more-lines.ensures c.name_offset.ensures c.name_offset-2.ensures

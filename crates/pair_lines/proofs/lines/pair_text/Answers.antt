@@ -1,24 +1,21 @@
-use mathlib.Core.Path.{sym, ◌∙◌}
-use Rattle.pair_lines.proofs.NumberLaws.{pair_is, pair_not}
+use mathlib.Core.Path.{sym, ap, ◌∙◌}
+use Rattle.offset_lines.specs.Lines.{held_value, is_void}
+use Rattle.pair_lines.specs.Lines.{number_of, pair_text}
+use Rattle.pair_lines.proofs.NumberLaws.{pair_is, second_is, rest_is}
 use Rattle.pair_lines.proofs.lines.pair_text.Goals as goal
 
-pub slice_bounds-behind-count : goal.slice_bounds-behind-count
-slice_bounds-behind-count c = c.read_number-first.ensures.2
-
-pub slice_bounds-behind-start : goal.slice_bounds-behind-start
-slice_bounds-behind-start c = c.read_number-first.ensures.2
-
-pub slice_bounds-rest-count : goal.slice_bounds-rest-count
-slice_bounds-rest-count c = c.read_number-second.ensures.2
-
-pub slice_bounds-rest-start : goal.slice_bounds-rest-start
-slice_bounds-rest-start c = c.read_number-second.ensures.2
-
 pub returns-then-is_void : goal.returns-then-is_void
+unfolding pair_text
 returns-then-is_void c =
-    c.pair_of.ensures
-    ∙ pair_is _ c.read_number-first.ensures _ c.skip_blanks-at.ensures.1 c.read_number-second.ensures _ c.skip_blanks-at-2.ensures.1 (sym c.is_void.ensures ∙ c.if-is_void.true)
+    let a = c.read_number.ensures in
+    let b = c.read_number-2.ensures in
+    let s = second_is c.args.text.now a.2 c.skip_blanks.ensures in
+    let r = rest_is c.args.text.now s b.2 c.skip_blanks-2.ensures in
+    simp (sym (ap is_void r) ∙ sym c.is_void.ensures ∙ c.if-is_void.true) (pair_is c.args.text.now a.0 s b.0 (c.pair_of.ensures _ _ a.1 (b.1 ∙ ap (λ t. held_value (number_of t)) s)))
 
-pub returns : goal.returns
-returns c =
-    pair_not _ c.read_number-first.ensures _ c.skip_blanks-at.ensures.1 c.read_number-second.ensures _ c.skip_blanks-at-2.ensures.1 (sym c.is_void.ensures ∙ c.if-is_void.false)
+pub returns-else-is_void : goal.returns-else-is_void
+unfolding pair_text
+returns-else-is_void c =
+    let s = second_is c.args.text.now c.read_number.ensures.2 c.skip_blanks.ensures in
+    let r = rest_is c.args.text.now s c.read_number-2.ensures.2 c.skip_blanks-2.ensures in
+    simp (sym (ap is_void r) ∙ sym c.is_void.ensures ∙ c.if-is_void.false)

@@ -1,0 +1,82 @@
+-- A text that is read byte by byte, and what a reader then holds of it. Assumes nothing.
+use mathlib.Core.Path.{◌≡◌, refl, sym, ap, subst, ◌∙◌}
+use mathlib.Core.List.{List, [], ◌∷◌, ◌++◌, append-nil, append_assoc}
+use Prim.Native.Nat.{ℕ, ◌+◌, ◌<◌}
+use native.Mathlib.Numerals.{add-one}
+use lib.ListN.{length, take, get_or}
+use lib.Seq.{take-suc}
+use Rattle.text_lines.specs.Rests.{HoldsRest}
+use Rattle.text_lines.specs.Readers.{Reads, at_start, line_ends, byte_joins, Finishes, no_line, last_line, ReadTo}
+use Rattle.text_lines.specs.Texts.{Text, take_byte, take_bytes, at_end}
+use Rattle.text_lines.specs.declared.open_line.OpenLine.{OpenLine}
+use Rattle.text_lines.proofs.PieceLaws.{pieces, byte_ends, byte_joins as byte_kept, end_none, end_some}
+
+-- ---- one byte more
+
+module _ {S : Type 0} {Ended : S → List ℕ → S → Type 0} {start : S} {rest : List ℕ} where
+  pub read_start : {line : OpenLine} → HoldsRest rest line.length line.bytes → ReadTo Ended start rest [] start line
+  read_start h = record { after = rest; reads = at_start; holds = h }
+
+  module _ (piece : List ℕ) {k : ℕ} {s : S} {line : OpenLine} (r : ReadTo Ended start rest (take k piece) s line) (l : k < length piece) where
+    next : (b : ℕ) → get_or piece k 0 ≡ b → take k piece ++ (b ∷ []) ≡ take (k + 1) piece
+    next b e = ap (λ (b : ℕ). take k piece ++ (b ∷ [])) (sym e) ∙ sym (ap (λ (n : ℕ). take n piece) (add-one k) ∙ take-suc piece k 0 l)
+
+    pub read_line : get_or piece k 0 ≡ 10 → {held : List ℕ} → ((rest : List ℕ) → HoldsRest rest line.length line.bytes → held ≡ take 2052 rest)
+        → {s' : S} → Ended s held s' → {line' : OpenLine} → ((rest : List ℕ) → HoldsRest rest line.length line.bytes → HoldsRest [] line'.length line'.bytes)
+        → ReadTo Ended start rest (take (k + 1) piece) s' line'
+    read_line e held {s'} ended cleared = record {
+      after = [];
+      reads =
+          subst (λ (bytes : List ℕ). Reads Ended start rest bytes s' []) (next 10 e)
+          (line_ends r.reads (subst (λ (xs : List ℕ). Ended s xs s') (held r.after r.holds) ended));
+      holds = cleared r.after r.holds;
+    }
+
+    pub read_byte : (get_or piece k 0 ≡ 10 → ⊥) → {line' : OpenLine}
+        → ((rest : List ℕ) → HoldsRest rest line.length line.bytes → HoldsRest (rest ++ (get_or piece k 0 ∷ [])) line'.length line'.bytes)
+        → ReadTo Ended start rest (take (k + 1) piece) s line'
+    read_byte n pushed = record {
+      after = r.after ++ (get_or piece k 0 ∷ []);
+      reads = subst (λ (bytes : List ℕ). Reads Ended start rest bytes s (r.after ++ (get_or piece k 0 ∷ []))) (next (get_or piece k 0) refl) (byte_joins r.reads n);
+      holds = pushed r.after r.holds;
+    }
+
+-- ---- one piece behind another
+
+pub reads_then : {S : Type 0} {Ended : S → List ℕ → S → Type 0} {start : S} {rest bytes : List ℕ} {s : S} {after : List ℕ} → Reads Ended start rest bytes s after
+    → {more : List ℕ} {s' : S} {after' : List ℕ} → Reads Ended s after more s' after' → Reads Ended start rest (bytes ++ more) s' after'
+reads_then {Ended = Ended} {start = start} {rest = rest} {bytes = bytes} {s = s} {after = after} r at_start =
+    subst (λ (xs : List ℕ). Reads Ended start rest xs s after) (sym (append-nil bytes)) r
+reads_then {Ended = Ended} {start = start} {rest = rest} {bytes = bytes} r (line_ends {bytes = more} {s' = s'} k e) =
+    subst (λ (xs : List ℕ). Reads Ended start rest xs s' []) (append_assoc bytes more (10 ∷ [])) (line_ends (reads_then r k) e)
+reads_then {Ended = Ended} {start = start} {rest = rest} {bytes = bytes} r (byte_joins {bytes = more} {after = after} {s = s} {b = b} k n) =
+    subst (λ (xs : List ℕ). Reads Ended start rest xs s (after ++ (b ∷ []))) (append_assoc bytes more (b ∷ [])) (byte_joins (reads_then r k) n)
+
+-- ---- what each line keeps
+
+module _ {S F : Type 0} (Ended : S → List ℕ → S → Type 0) (step : List ℕ → F → F) (H : F → S → Type 0)
+    (each : (s s' : S) (f : F) (full : List ℕ) → Ended s (take 2052 full) s' → H f s → H (step full f) s') where
+  -- the reader holds the file of a text so far, and the line that is not ended has these bytes
+  pub record HoldsAt (t : Text F) (s : S) (rest : List ℕ) : Type 0 where
+    pub file : H t.file s
+    pub same : t.rest ≡ rest
+
+  pub reads_hold : {s : S} {rest : List ℕ} {s' : S} {after bytes : List ℕ} → Reads Ended s rest bytes s' after → (t : Text F) → HoldsAt t s rest → HoldsAt (take_bytes step t bytes) s' after
+  unfolding take_bytes
+  reads_hold at_start t h = h
+  reads_hold (line_ends {bytes = bytes} {after = after} {s = s₁} {s' = s₂} r e) t h =
+      let g = reads_hold r t h in
+      let u = take_bytes step t bytes in
+      subst (λ (v : Text F). HoldsAt v s₂ []) (sym (pieces step t bytes (10 ∷ []) ∙ byte_ends step u 10 refl))
+      (record { file = each s₁ s₂ u.file u.rest (subst (λ (xs : List ℕ). Ended s₁ (take 2052 xs) s₂) (sym g.same) e) g.file; same = refl })
+  reads_hold (byte_joins {bytes = bytes} {after = after} {s = s₁} {b = b} r n) t h =
+      let g = reads_hold r t h in
+      let u = take_bytes step t bytes in
+      subst (λ (v : Text F). HoldsAt v s₁ (after ++ (b ∷ []))) (sym (pieces step t bytes (b ∷ []) ∙ byte_kept step u b n))
+      (record { file = g.file; same = ap (λ (xs : List ℕ). xs ++ (b ∷ [])) g.same })
+
+  pub finish_holds : {s s' : S} {rest : List ℕ} → Finishes Ended s rest s' → (t : Text F) → HoldsAt t s rest → H (at_end step t) s'
+  finish_holds {s = s} (no_line z) t h = subst (λ (f : F). H f s) (sym (end_none step t (ap length h.same ∙ z))) h.file
+  finish_holds {s = s} {s' = s'} (last_line n e) t h =
+      subst (λ (f : F). H f s') (sym (end_some step t (λ z. n (sym (ap length h.same) ∙ z))))
+      (each s s' t.file t.rest (subst (λ (xs : List ℕ). Ended s (take 2052 xs) s') (sym h.same) e) h.file)

@@ -1,0 +1,44 @@
+ghost use Rattle.std.specs.Prelude.{◌≡◌, List, [], ◌∷◌, ◌++◌, ℕ, take};
+ghost use Rattle.text_lines.specs.Rests.{HoldsRest};
+
+// A line that is not ended: as many of its bytes as decide what it is, and how many that are.
+#[derive(Clone, Copy)]
+pub struct OpenLine {
+    pub bytes: [u8; 2052],
+    pub length: usize,
+}
+
+impl OpenLine {
+    pub fn new() -> OpenLine
+        ensures { HoldsRest [] result.length result.bytes }
+    {
+        OpenLine {
+            bytes: [0; 2052],
+            length: 0,
+        }
+    }
+
+    // A byte more.
+    pub fn push(&mut self, byte: u8)
+        ensures { (rest : List ℕ) → HoldsRest rest self.old.length self.old.bytes → HoldsRest (rest ++ (byte ∷ [])) self.new.length self.new.bytes }
+    {
+        if self.length < 2052 {
+            self.bytes[self.length] = byte;
+            self.length += 1;
+        }
+    }
+
+    // The line is ended, and another starts.
+    pub fn clear(&mut self)
+        ensures { (rest : List ℕ) → HoldsRest rest self.old.length self.old.bytes → HoldsRest [] self.new.length self.new.bytes }
+    {
+        self.length = 0;
+    }
+
+    // What is held of it.
+    pub fn held(&self) -> &[u8]
+        ensures { (rest : List ℕ) → HoldsRest rest self.now.length self.now.bytes → result.now ≡ take 2052 rest }
+    {
+        &self.bytes[..self.length.min(2052)]
+    }
+}
