@@ -1,12 +1,13 @@
 -- What the loop stores, as what a call has written, and what a call that a refusal ends gives. Assumes nothing.
 use mathlib.Core.Path.{◌≡◌, refl, sym, ap, ap₂, ◌∙◌}
 use mathlib.Core.Bool.{Bool}
-use mathlib.Core.List.{List, ◌++◌}
+use mathlib.Core.List.{List, ◌++◌, append-nil, append_assoc}
+use borrow.Rule.Slice.PartMut.{mid_of, post_of, Post-is}
 use Prim.Native.Nat.{ℕ, ◌+◌, ◌-◌, ◌*◌, ◌≤◌}
 use native.Mathlib.Nat.{sub-zero, zero-add}
 use native.Mathlib.Omega.{arith}
-use lib.ListN.{length, drop, length-append, length-drop}
-use lib.Seq.{take_at, drop_at, drop-drop}
+use lib.ListN.{length, take, drop, length-append, length-drop}
+use lib.Seq.{take_at, take-length, drop_at, drop-drop, drop-length}
 use Rattle.std.specs.Result.{IsErrAnd}
 use Rattle.std.proofs.Common.{Result}
 use Rattle.std.proofs.lemmas.Result.{err_from_is_err_and}
@@ -66,6 +67,13 @@ module _ (has : ℕ → Bool) (part : Part) (out : List ℕ) where
       e ∙ ap (λ (n : ℕ). stored 0 out (front_steps n has part)) (sub-zero (length out))
       ∙ ap (λ (n : ℕ). record { count = n; low = m.part.low; out = m.positions ++ drop n out }) (zero-add (length m.positions))
 
+  -- a buffer is as long as it was, and no shorter than what is written into it
+  pub room : {x : FillOutcome} → x ≡ filled has part.high 0 part.low out → (x.count ≤ length out) × (length x.out ≡ length out)
+  room e =
+      let m = front_steps (length out) has part in
+      let n = length m.positions in
+      rw (from_zero e) (steps_length has (length out) part, omega (arith, length-append m.positions (drop n out), length-drop n out, steps_length has (length out) part))
+
   -- the record of the part after the steps
   part_is : (n : ℕ) → ◌≡◌ {A = Part} (record { low = (front_steps n has part).part.low; high = part.high }) (front_steps n has part).part
   part_is n = ap (λ (h : ℕ). record { low = (front_steps n has part).part.low; high = h }) (sym (steps_high has n part))
@@ -76,6 +84,14 @@ module _ (has : ℕ → Bool) (part : Part) (out : List ℕ) where
       let m = front_steps (length out) has part in
       ap (λ (y : FillOutcome). record { number = 0; count = y.count; part = record { low = y.low; high = part.high }; out = y.out }) (from_zero e)
       ∙ ap (λ (p : Part). record { number = 0; count = length m.positions; part = p; out = m.positions ++ drop (length m.positions) out }) (part_is (length out))
+
+-- what lies after the end of a buffer is nothing
+pub after_all : (n : ℕ) (xs ys : List ℕ) → n ≤ length xs → ys ++ post_of n (length xs - n) xs ≡ ys
+after_all n xs ys h = ap (λ (zs : List ℕ). ys ++ zs) (Post-is n (length xs) xs h ∙ drop-length xs) ∙ append-nil ys
+
+-- and from n on it is what n words leave
+pub from_on : (n : ℕ) (xs : List ℕ) → mid_of n (length xs - n) xs ≡ drop n xs
+from_on n xs = ap (λ (k : ℕ). take k (drop n xs)) (sym (length-drop n xs)) ∙ take-length (drop n xs)
 
 -- the second part behind the first
 module _ (f g : ℕ → Bool) (one two : Part) (out : List ℕ) where
@@ -88,26 +104,22 @@ module _ (f g : ℕ → Bool) (one two : Part) (out : List ℕ) where
   abbrev o : Many
   o = rest f g (length out) m two
 
-  behind : filled g two.high n two.low (m.positions ++ drop n out)
-      ≡ record { count = n + length o.positions; low = o.part.low; out = m.positions ++ o.positions ++ drop (n + length o.positions) out }
-  unfolding filled
-  behind =
-      let xs = m.positions ++ drop n out in
-      let k = length o.positions in
-      let left : length xs - n ≡ length out - n = omega (arith, length-append m.positions (drop n out), length-drop n out, steps_length f (length out) one) in
-      ap (λ (i : ℕ). stored n xs (front_steps i g two)) left
-      ∙ ap₂ (λ (ys zs : List ℕ). record { count = n + k; low = o.part.low; out = ys ++ o.positions ++ zs })
-      (take_at m.positions (drop n out) n refl)
-      (sym (drop-drop k n xs) ∙ ap (drop k) (drop_at m.positions (drop n out) n refl) ∙ drop-drop k n out)
-
-  pub pair_written : {x y : FillOutcome} → x ≡ filled f one.high 0 one.low out → y ≡ filled g two.high x.count two.low x.out
-      → ◌≡◌ {A = ManyPairOutcome} (record { number = 0; count = y.count; one = record { low = x.low; high = one.high }; two = record { low = y.low; high = two.high }; out = y.out })
+  pub pair_written : {x y : FillOutcome} → x ≡ filled f one.high 0 one.low out → y ≡ filled g two.high 0 two.low (drop x.count x.out)
+      → ◌≡◌ {A = ManyPairOutcome} (record { number = 0; count = x.count + y.count; one = record { low = x.low; high = one.high }; two = record { low = y.low; high = two.high }; out = take x.count x.out ++ y.out })
       (written_pair out (front_pairs (length out) f g one two))
   pair_written {x} {y} e d =
       let first = from_zero f one out e in
-      let second = d ∙ ap (λ (z : FillOutcome). filled g two.high z.count two.low z.out) first ∙ behind in
-      ap₂ (λ (z w : FillOutcome). record { number = 0; count = w.count; one = record { low = z.low; high = one.high }; two = record { low = w.low; high = two.high }; out = w.out }) first second
-      ∙ ap₂ (λ (p q : Part). record { number = 0; count = n + length o.positions; one = p; two = q; out = m.positions ++ o.positions ++ drop (n + length o.positions) out })
+      let xs = m.positions ++ drop n out in
+      let left = drop_at m.positions (drop n out) n refl in
+      let second = from_zero g two (drop n out) (d ∙ ap (λ (z : FillOutcome). filled g two.high 0 two.low (drop z.count z.out)) first ∙ ap (λ (zs : List ℕ). filled g two.high 0 two.low zs) left)
+      ∙ ap (λ (i : ℕ). written_from (front_steps i g two)) (length-drop n out) in
+      ap₂ (λ (z w : FillOutcome). record { number = 0; count = z.count + w.count; one = record { low = z.low; high = one.high }; two = record { low = w.low; high = two.high }; out = take z.count z.out ++ w.out }) first second
+      ∙ ap₂ (λ (p q : Part). record { number = 0; count = n + length o.positions; one = p; two = q; out = take n xs ++ (o.positions ++ drop (length o.positions) (drop n out)) })
       (part_is f one out (length out)) (part_is g two out (length out - n))
+      ∙ ap₂ (λ (ys zs : List ℕ). record { number = 0; count = n + length o.positions; one = m.part; two = o.part; out = ys ++ (o.positions ++ zs) }) (take_at m.positions (drop n out) n refl) (drop-drop (length o.positions) n out)
+      ∙ ap (λ (ys : List ℕ). record { number = 0; count = n + length o.positions; one = m.part; two = o.part; out = ys }) (sym (append_assoc m.positions o.positions (drop (n + length o.positions) out)))
       ∙ ap (λ (k : ℕ). record { number = 0; count = k; one = m.part; two = o.part; out = m.positions ++ o.positions ++ drop k out }) (sym (length-append m.positions o.positions))
       ∙ ap (written_pair out) (sym (pairs_are f g (length out) one two))
+    where
+      written_from : Many → FillOutcome
+      written_from q = record { count = length q.positions; low = q.part.low; out = q.positions ++ drop (length q.positions) (drop n out) }

@@ -8,26 +8,25 @@ use blocks::block;
 use parts::Select;
 use word_bits::trailing_zeros;
 
-// The selected positions of low..high, rising, into out[from..], as many as fit. `rest` is what is left of word k. High is asked of each position, so that no word but the first is cut: that is why the words are not taken by a `for`.
+// The selected positions of low..high, rising, into the buffer, as many as fit. `rest` is what is left of word k. High is asked of each position, so that no word but the first is cut: that is why the words are not taken by a `for`.
 pub(crate) fn fill<S: Select>(
     words: &[u64],
     other: &[u64],
     low: usize,
     high: usize,
     out: &mut [u64],
-    from: usize,
 ) -> Filled
     requires { high ≤ length words.now * 64 }
-    ensures { fill_outcome result out.new ≡ filled (λ (p : ℕ). selected S.selection (bit_of words.now p) (bit_of other.now p)) high from low out.old }
+    ensures { fill_outcome result out.new ≡ filled (λ (p : ℕ). selected S.selection (bit_of words.now p) (bit_of other.now p)) high 0 low out.old }
 {
     if high <= low {
-        return Filled { count: from, low };
+        return Filled { count: 0, low };
     }
     let end = (high - 1) / 64 + 1;
     let bit = low % 64;
     let mut k = low / 64;
     let mut rest = S::word(words[k], block(other, k)) & (u64::MAX << bit);
-    let mut count = from;
+    let mut count = 0;
     let mut low = low;
     loop {
         while rest != 0 {

@@ -18,7 +18,7 @@ fn fill_part<S: Select>(a: Checked<'_>, b: Checked<'_>, part: Part, out: &mut [u
     ensures { many_outcome (accepted_many result) out.new ≡ written out.old (front_steps (length out.old) (chosen S.selection (members a.entry) (members b.entry)) part) }
 {
     let high = part.high;
-    let filled = fill::<S>(a.words, b.words, part.low, high, out, 0);
+    let filled = fill::<S>(a.words, b.words, part.low, high, out);
     Many {
         count: filled.count,
         part: Part {

@@ -28,10 +28,10 @@ fn fill_pair<S: Select>(
     b.ask_part(two)?;
     let own = both.0.words;
     let others = both.1.words;
-    let first = fill::<S>(own, others, one.low, one.high, out, 0);
-    let second = fill::<Difference>(others, own, two.low, two.high, out, first.count);
+    let first = fill::<S>(own, others, one.low, one.high, out);
+    let second = fill::<Difference>(others, own, two.low, two.high, &mut out[first.count..]);
     Ok(ManyPair {
-        count: second.count,
+        count: first.count + second.count,
         one: Part {
             low: first.low,
             high: one.high,

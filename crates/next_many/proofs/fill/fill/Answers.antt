@@ -23,11 +23,11 @@ fit g c k =
 
 -- the selected positions are the bits of the selected words
 by_words : (g : Over) (c : Else-high-low g) {r : FillOutcome}
-    → r ≡ filled (row (selected_word g.S.Select.selection c.args.words.now c.args.other.now)) c.args.high c.args.from c.args.low c.args.out.now
-    → r ≡ filled (λ (p : ℕ). selected g.S.Select.selection (bit_of c.args.words.now p) (bit_of c.args.other.now p)) c.args.high c.args.from c.args.low c.args.out.now
+    → r ≡ filled (row (selected_word g.S.Select.selection c.args.words.now c.args.other.now)) c.args.high 0 c.args.low c.args.out.now
+    → r ≡ filled (λ (p : ℕ). selected g.S.Select.selection (bit_of c.args.words.now p) (bit_of c.args.other.now p)) c.args.high 0 c.args.low c.args.out.now
 by_words g c e =
     let a = c.args in
-    e ∙ ap (λ (has : ℕ → Bool). filled has a.high a.from a.low a.out.now)
+    e ∙ ap (λ (has : ℕ → Bool). filled has a.high 0 a.low a.out.now)
     (fun_ext (λ p. select_row g.S.Select.selection a.words.now a.other.now (λ k. (c.shared_slice_known-1.given k).fits) (λ k. (c.shared_slice_known-2-1.given k).fits) p))
 
 -- the lowest position of what is left of the word
@@ -41,14 +41,14 @@ from_low g c = rw c.trailing_zeros.ensures (lowest_le _ _ _ _ c.loop-rest-2.inva
 -- what the inner loop has kept, of the whole
 through : (g : Over) (c : At-loop-rest-2 g)
     → let a = c.args in
-    Filling (selected_word g.S.Select.selection a.words.now a.other.now) a.high (filled (row (selected_word g.S.Select.selection a.words.now a.other.now)) a.high a.from a.low a.out.now) (length a.out.now)
+    Filling (selected_word g.S.Select.selection a.words.now a.other.now) a.high (filled (row (selected_word g.S.Select.selection a.words.now a.other.now)) a.high 0 a.low a.out.now) (length a.out.now)
     c.loop-rest.k c.loop-rest-2.rest c.loop-rest-2.count c.loop-rest-2.low c.loop-rest-2.out
 through g c = filling_out _ _ _ _ c.loop-rest.invariant c.loop-rest-2.invariant
 
 pub returns-then-high-low : goal.returns-then-high-low
 returns-then-high-low g c =
     let a = c.args in
-    sym (filled_over _ a.high a.from a.low a.out.now (λ p l h. absurd (omega (arith, c.if-high-low.true))))
+    sym (filled_over _ a.high 0 a.low a.out.now (λ p l h. absurd (omega (arith, c.if-high-low.true))))
 
 pub loop-rest-init : goal.loop-rest-init
 loop-rest-init g c =

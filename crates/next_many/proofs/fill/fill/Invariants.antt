@@ -14,7 +14,7 @@ abbrev pub decreases-loop-rest-2 : goal.decreases-loop-rest-2
 decreases-loop-rest-2 g l = l.high - l.low
 
 abbrev pub invariant-loop-rest : goal.invariant-loop-rest
-invariant-loop-rest g l = Filling (selected_word g.S.Select.selection l.words l.other) l.high (filled (row (selected_word g.S.Select.selection l.words l.other)) l.high l.from l.low-2 l.initial.out) (length l.initial.out) l.k l.rest l.count l.low l.out
+invariant-loop-rest g l = Filling (selected_word g.S.Select.selection l.words l.other) l.high (filled (row (selected_word g.S.Select.selection l.words l.other)) l.high 0 l.low-2 l.initial.out) (length l.initial.out) l.k l.rest l.count l.low l.out
 
 abbrev pub decreases-loop-rest : goal.decreases-loop-rest
 decreases-loop-rest g l = l.end - l.k
