@@ -19,8 +19,7 @@ use Rattle.two_sets.specs.Rules.{union_with_rule}
 use Rattle.two_set_counts.specs.Rules.{union_count_rule, symmetric_difference_count_rule}
 use Rattle.walks.specs.Rules.{first_part, ones_next_rule, ones_next_back_rule}
 use Rattle.walks.specs.Rules.{union_next_rule, union_next_back_rule, symmetric_difference_next_rule, symmetric_difference_next_back_rule}
-use Rattle.walks.specs.declared.answers.Stepped.{Stepped}
-use Rattle.walks.specs.declared.answers.SteppedPair.{SteppedPair}
+use Rattle.walks.specs.Rules.{Stepped, SteppedPair}
 use Rattle.whole_walks.specs.Walks.{walk_list}
 use Rattle.whole_walks.specs.Rules.{WalkOutcome, answer_word, walk_rule}
 use Rattle.whole_walks.specs.declared.walk.Walk.{Walk}

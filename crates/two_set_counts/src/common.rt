@@ -14,6 +14,7 @@ fn ones_joined<F: Fn(u64, u64) -> u64>(words: &[u64], other: &[u64], word: F) ->
     ensures { (op : ℕ → ℕ → ℕ) → Makes (F.post word) op
         → result ≡ count (min (length words.now) (length other.now) * 64) (row (λ (k : ℕ). op (get_or words.now k 0) (get_or other.now k 0))) }
 {
+    // A loop: the bound of a chain's sum gets no proof where its closure calls a parameter.
     let mut sum = 0;
     for k in 0..words.len().min(other.len()) {
         sum += count_ones(word(words[k], other[k]));
