@@ -1,97 +1,73 @@
-use check::same;
-use tool_files::part;
+ghost use Rattle.std.specs.Prelude.{◌≤◌, ◌-◌, length};
+ghost use Rattle.std.specs.Iterator.{at_most};
 
-// The words of the command line, each with a zero byte behind it. An option starts with `-` and is longer than that; none is behind `--`. The word behind
-// `--length` belongs to it.
+// A word of the command line. An option starts with `-` and is longer than that; none is behind `--`. The word behind `--length` belongs to it.
+#[derive(Clone, Copy, Debug, PartialEq, Eq)]
+pub(crate) enum Word<'a> {
+    Operand(&'a [u8]),
+    Option(&'a [u8]),
+    Length(&'a [u8]),
+}
+
+impl<'a> Word<'a> {
+    pub(crate) fn operand(self) -> Option<&'a [u8]> {
+        match self {
+            Word::Operand(operand) => Some(operand),
+            _ => None,
+        }
+    }
+}
+
+// The words that are left of a command line, each with a zero byte behind it. `ended` says that `--` was before them.
 #[derive(Clone, Copy)]
-pub(crate) struct Word {
-    pub end: usize,
-    pub next: usize,
-    pub option: bool,
-    pub ended: bool,
+pub(crate) struct Words<'a> {
+    text: &'a [u8],
+    ended: bool,
 }
 
-fn word_end(text: &[u8], start: usize) -> usize {
-    let mut k = start;
-    while k < text.len() {
-        if text[k] == 0 {
-            return k;
+// The bytes before the first zero byte, and those behind it.
+fn split_word(text: &[u8]) -> (&[u8], &[u8])
+    ensures { length result.1.now ≤ length text.now - 1 }
+{
+    match text.iter().position(|byte| *byte == 0) {
+        Some(end) => (&text[..end], &text[end + 1..]),
+        None => (text, &text[text.len()..]),
+    }
+}
+
+impl<'a> Words<'a> {
+    pub(crate) fn new(text: &'a [u8]) -> Words<'a> {
+        Words { text, ended: false }
+    }
+}
+
+impl<'a> Iterator for Words<'a> {
+    type Item = Word<'a>;
+
+    ghost remaining = { λ s. at_most (length s.text.now) };
+
+    fn next(&mut self) -> Option<Word<'a>> {
+        if self.text.is_empty() {
+            return None;
         }
-        k += 1;
-    }
-    text.len()
-}
-
-fn is_option(word: &[u8]) -> bool {
-    if word.len() < 2 {
-        return false;
-    }
-    word[0] == b'-'
-}
-
-// Where the word behind one that ends here starts.
-fn next_start(text: &[u8], end: usize) -> usize {
-    if end < text.len() {
-        end + 1
-    } else {
-        text.len()
-    }
-}
-
-// The word behind one that ends here; no bytes where there is none.
-pub(crate) fn value_at(text: &[u8], end: usize) -> &[u8] {
-    let start = next_start(text, end);
-    part(text, start, word_end(text, start))
-}
-
-// The word at a place. `ended` says that `--` was before it.
-pub(crate) fn word_at(text: &[u8], start: usize, ended: bool) -> Word {
-    let end = word_end(text, start);
-    let word = part(text, start, end);
-    let next = next_start(text, end);
-    if ended {
-        return Word {
-            end,
-            next,
-            option: false,
-            ended: true,
-        };
-    }
-    if same(word, b"--length") {
-        return Word {
-            end,
-            next: next_start(text, word_end(text, next)),
-            option: true,
-            ended: false,
-        };
-    }
-    Word {
-        end,
-        next,
-        option: is_option(word),
-        ended: same(word, b"--"),
-    }
-}
-
-// The word with number `wanted` among those that are no options, from 0; no bytes where there are fewer.
-pub(crate) fn operand(text: &[u8], wanted: usize) -> &[u8] {
-    let mut at = 0;
-    let mut ended = false;
-    let mut left = wanted;
-    let mut turns = text.len();
-    while turns > 0 {
-        turns -= 1;
-        if at < text.len() {
-            let word = word_at(text, at, ended);
-            if !word.option {
-                if left == 0 {
-                    return part(text, at, word.end);
-                }
-                left -= 1;
-            }
-            at = word.next;
-            ended = word.ended;
+        let (word, rest) = split_word(self.text);
+        self.text = rest;
+        if self.ended || word.len() < 2 || word[0] != b'-' {
+            return Some(Word::Operand(word));
         }
+        if word == b"--length".as_slice() {
+            let (value, rest) = split_word(self.text);
+            self.text = rest;
+            return Some(Word::Length(value));
+        }
+        self.ended = word == b"--".as_slice();
+        Some(Word::Option(word))
     }
-    &text[..0]
+}
+
+// The word with number `wanted` among those that are no options, from 0.
+pub(crate) fn operand(text: &[u8], wanted: usize) -> Option<&[u8]> {
+    Words::new(text)
+        .filter_map(|word| word.operand())
+        .nth(wanted)
 }

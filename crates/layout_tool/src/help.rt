@@ -1,19 +1,7 @@
-use check::same;
-use std::io::Write;
-use tool_files::{incomplete, tell, write_whole};
+use crate::commands::Command;
 
-// Writes a text. 2 where it could not be written whole.
-pub(crate) fn write_help<W: Write, E: Write>(text: &[u8], out: &mut W, err: &mut E) -> usize {
-    match write_whole(out, text) {
-        Ok(()) => 0,
-        Err(error) => {
-            incomplete(err, &error);
-            2
-        }
-    }
-}
-
-fn general_text() -> &'static [u8] {
+// The help of all commands.
+pub(crate) fn general_help() -> &'static [u8] {
     b"layout compare FIRMWARE TABLE..      whether each table names the offsets of the firmware, and which they do not share\n\
 layout list FILE                     the offsets of a file, rising\n\
 layout union A B                     the offsets of A, then those of B that are not in A\n\
@@ -35,94 +23,36 @@ A file has one offset a line, 0 to 65535, decimal or hexadecimal with 0x. Blank 
 The status is 0 for the same or complete, 1 for different, 2 for trouble: then nothing that was written may be used.\n"
 }
 
-fn general_help<W: Write, E: Write>(out: &mut W, err: &mut E) -> usize {
-    write_help(general_text(), out, err)
-}
-
-// The help of all commands on the error stream, where no command is named.
-pub(crate) fn tell_help<E: Write>(err: &mut E) {
-    if let Err(error) = write_whole(err, general_text()) {
-        incomplete(err, &error);
-    }
-}
-
-fn unknown<E: Write>(command: &[u8], err: &mut E) -> usize {
-    let _told = tell(
-        err,
-        b"ERROR: unknown command ",
-        command,
-        b"; layout help lists them",
-    );
-    2
-}
-
-// The help of one command, or of all where none is named.
-pub(crate) fn command_help<W: Write, E: Write>(
-    command: &[u8],
-    named: bool,
-    out: &mut W,
-    err: &mut E,
-) -> usize {
-    if !named {
-        return general_help(out, err);
-    }
-    if same(command, b"help") {
-        return general_help(out, err);
-    }
-    if same(command, b"compare") {
-        return write_help(
-            b"layout compare FIRMWARE TABLE..\n\
+impl Command {
+    pub(crate) fn help(self) -> &'static [u8] {
+        match self {
+            Command::Compare => {
+                b"layout compare FIRMWARE TABLE..\n\
 Lists the offsets that only FIRMWARE names, then those that only the table names, and says `same` or `DIFFERENT` with the totals of both files.\n\
-With several tables each has its verdict, and the last line is over all of them. Status 0: all tables are the same; 1: one is different; 2: trouble with a file.\n",
-            out,
-            err,
-        );
-    }
-    if same(command, b"list") {
-        return write_help(
-            b"layout list FILE\n\
-Lists the offsets of FILE, rising, one a line. The last line is `# complete: N offsets`: a list without it is not whole, and the tool refuses a list that has another number of offsets.\n",
-            out,
-            err,
-        );
-    }
-    if same(command, b"union") {
-        return write_help(
-            b"layout union A B\nLists the offsets of A, rising, then those of B that are not in A, rising, and the last line of a list.\n",
-            out,
-            err,
-        );
-    }
-    if same(command, b"intersection") {
-        return write_help(
-            b"layout intersection A B\nLists the offsets of A that are in B, rising, and the last line of a list.\n",
-            out,
-            err,
-        );
-    }
-    if same(command, b"difference") {
-        return write_help(
-            b"layout difference A B\nLists the offsets of A that are not in B, rising, and the last line of a list.\n",
-            out,
-            err,
-        );
-    }
-    if same(command, b"symmetric-difference") {
-        return write_help(
-            b"layout symmetric-difference A B\nLists the offsets of A that are not in B, rising, then those of B that are not in A, rising, and the last line of a list.\n",
-            out,
-            err,
-        );
-    }
-    if same(command, b"renumber") {
-        return write_help(
-            b"layout renumber PAIRS OLD --length N\n\
+With several tables each has its verdict, and the last line is over all of them. Status 0: all tables are the same; 1: one is different; 2: trouble with a file.\n"
+            }
+            Command::List => {
+                b"layout list FILE\n\
+Lists the offsets of FILE, rising, one a line. The last line is `# complete: N offsets`: a list without it is not whole, and the tool refuses a list that has another number of offsets.\n"
+            }
+            Command::Union => {
+                b"layout union A B\nLists the offsets of A, rising, then those of B that are not in A, rising, and the last line of a list.\n"
+            }
+            Command::Intersection => {
+                b"layout intersection A B\nLists the offsets of A that are in B, rising, and the last line of a list.\n"
+            }
+            Command::Difference => {
+                b"layout difference A B\nLists the offsets of A that are not in B, rising, and the last line of a list.\n"
+            }
+            Command::SymmetricDifference => {
+                b"layout symmetric-difference A B\nLists the offsets of A that are not in B, rising, then those of B that are not in A, rising, and the last line of a list.\n"
+            }
+            Command::Renumber => {
+                b"layout renumber PAIRS OLD --length N\n\
 Lists the new offset of each offset of OLD, rising, and the last line of a list. PAIRS has an old offset and its new one on each line; N is the new length, 0 to 65536.\n\
 With --pairs: a line `old new` for each offset of OLD, by old offset. With --back: the pairs for the way back, a line `new old` for each pair of PAIRS, by new offset.\n\
-Refused, with the lines that are at fault, the first 20 of them and how many more: two pairs with one old offset, two with one new offset, a new offset that is not below N, an offset of OLD with no pair. OLD is read once PAIRS may be used.\n",
-            out,
-            err,
-        );
+Refused, with the lines that are at fault, the first 20 of them and how many more: two pairs with one old offset, two with one new offset, a new offset that is not below N, an offset of OLD with no pair. OLD is read once PAIRS may be used.\n"
+            }
+        }
     }
-    unknown(command, err)
 }

@@ -9,6 +9,7 @@ mod listing;
 mod options;
 mod program;
 mod renumbering;
+mod tool;
 
-pub use commands::run;
 pub use program::run_program;
+pub use tool::{Status, run};

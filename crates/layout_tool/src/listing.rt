@@ -1,77 +1,118 @@
+use crate::tool::{Status, Tool};
 use byte_texts::append_name;
 use listing_pieces::{first_page, next_piece};
 use listings::{Job, Stage};
-use std::io::Write;
-use tool_files::{incomplete, part, tell, write_whole};
+use std::io::{Input, Write};
+use std::rt::Files;
+use tool_files::Fragment::{Name, Text};
+use tool_files::{Step, Trouble, part, write_pieces};
+use whole_walks::Walk;
 
-fn is_over(stage: Stage) -> bool {
-    match stage {
-        Stage::First => false,
-        Stage::Second => false,
-        Stage::Last => false,
-        Stage::Over => true,
-    }
+// The offsets of a file, under its name.
+#[derive(Clone, Copy)]
+pub(crate) struct Offsets<'a> {
+    pub name: &'a [u8],
+    pub words: &'a [u64],
 }
 
-// Writes what the job has to say of two sets, piece by piece. False where not all of it was written: it was said why.
-pub(crate) fn write_pieces<W: Write, E: Write>(
-    job: Job,
-    words: &[u64],
-    other: &[u64],
-    name: &[u8],
-    other_name: &[u8],
-    out: &mut W,
-    err: &mut E,
-) -> bool {
-    let mut buffer = [0u8; 65536];
-    let mut page = first_page(job);
-    let mut turns: usize = 1000000;
-    while turns > 0 {
-        turns -= 1;
-        let piece = next_piece(job, words, other, name, other_name, page, &mut buffer);
-        if !piece.whole {
-            let _told = tell(err, b"INCOMPLETE: not all could be listed", b"", b"");
-            return false;
+impl<R: Files + Input, W: Write, E: Write> Tool<'_, R, W, E> {
+    // Writes what the job has to say of two files, and nothing at all where `--quiet` is asked for.
+    pub(crate) fn write_job(
+        &mut self,
+        job: Job,
+        file: Offsets,
+        other: Offsets,
+    ) -> Result<(), Trouble> {
+        if self.options.quiet {
+            return Ok(());
         }
-        if let Err(error) = write_whole(out, part(&buffer, 0, piece.length)) {
-            incomplete(err, &error);
-            return false;
-        }
-        page = piece.page;
-        let stage = page.stage;
-        if is_over(stage) {
-            return true;
-        }
+        let mut space = [0u8; 64];
+        let end = append_name(&mut space, 0, file.name);
+        let name = part(&space, 0, end);
+        let mut other_space = [0u8; 64];
+        let other_end = append_name(&mut other_space, 0, other.name);
+        let other_name = part(&other_space, 0, other_end);
+        write_pieces(
+            first_page(job),
+            |page, buffer| {
+                let piece = next_piece(
+                    job,
+                    file.words,
+                    other.words,
+                    name,
+                    other_name,
+                    page,
+                    buffer,
+                )?;
+                let over = matches!(piece.page.stage, Stage::Over);
+                Some(Step {
+                    length: piece.length,
+                    left: (!over).then_some(piece.page),
+                })
+            },
+            self.out,
+            self.err,
+        )
     }
-    let _told = tell(err, b"INCOMPLETE: not all could be listed", b"", b"");
-    false
-}
 
-// The same with the names as they are given, and nothing at all where `quiet`.
-pub(crate) fn write_job<W: Write, E: Write>(
-    job: Job,
-    quiet: bool,
-    words: &[u64],
-    other: &[u64],
-    name: &[u8],
-    other_name: &[u8],
-    out: &mut W,
-    err: &mut E,
-) -> bool {
-    if quiet {
-        return true;
+    // Writes the list of a walk over the offsets of two files.
+    pub(crate) fn write_walk(
+        &mut self,
+        walk: Walk,
+        file: Offsets,
+        other: Offsets,
+    ) -> Result<Status, Trouble> {
+        let job = Job {
+            walk,
+            compare: false,
+            sheet: self.options.sheet,
+            count: self.options.count,
+            several: false,
+        };
+        self.write_job(job, file, other)?;
+        Ok(Status::Complete)
     }
-    let mut space = [0u8; 64];
-    let end = append_name(&mut space, 0, name);
-    let mut other_space = [0u8; 64];
-    let other_end = append_name(&mut other_space, 0, other_name);
-    write_pieces(
-        job,
-        words,
-        other,
-        part(&space, 0, end),
-        part(&other_space, 0, other_end),
-        out,
-        err,
-    )
+
+    // The offsets of one file.
+    pub(crate) fn list(&mut self) -> Result<Status, Trouble> {
+        let (Some(name), None) = (self.operand(1), self.operand(2)) else {
+            return Err(self.fail(&[
+                Text(b"list takes one file; see layout help "),
+                Name(b"list"),
+            ]));
+        };
+        let mut words: [u64; 1024] = [0; 1024];
+        let mut table: [u64; 65536] = [0; 65536];
+        self.load(name, &mut words, &mut table)?;
+        let file = Offsets {
+            name,
+            words: &words,
+        };
+        self.write_walk(Walk::Ones, file, file)
+    }
+
+    // The list of a walk over the offsets of two files.
+    pub(crate) fn combine(&mut self, command: &[u8], walk: Walk) -> Result<Status, Trouble> {
+        let (Some(name), Some(other_name), None) = (
+            self.operand(1),
+            self.operand(2),
+            self.operand(3),
+        ) else {
+            return Err(self.fail(&[Name(command), Text(b" takes two files")]));
+        };
+        let mut words: [u64; 1024] = [0; 1024];
+        let mut other_words: [u64; 1024] = [0; 1024];
+        let mut table: [u64; 65536] = [0; 65536];
+        self.load(name, &mut words, &mut table)?;
+        self.load(other_name, &mut other_words, &mut table)?;
+        let file = Offsets {
+            name,
+            words: &words,
+        };
+        let other = Offsets {
+            name: other_name,
+            words: &other_words,
+        };
+        self.write_walk(walk, file, other)
+    }
 }

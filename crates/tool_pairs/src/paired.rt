@@ -1,52 +1,32 @@
-ghost use Rattle.std.specs.Prelude.{◌≡◌, true};
+ghost use Rattle.std.specs.Prelude.{◌≡◌, OnOk};
 ghost use Rattle.pair_listings.specs.Tables.{entry_of, offsets_of, unpaired_count};
 
-use byte_texts::append_name;
+use byte_texts::{Text, append_name};
 use pair_listings::{append_unpaired, count_unpaired, first_unpaired};
 use std::io::Write;
-use tool_files::{part, tell_number, write_whole};
+use tool_files::{Fragment, Trouble, fail, part};
 
-// The message of one member that no pair names. `table` has the lines of the old file.
-fn append_member(
-    report: &mut [u8],
-    at: usize,
-    old: &[u8],
-    table: &[u64],
-    offset: usize,
-    pairs: &[u8],
-) -> usize {
-    let line = blocks::block(table, offset) / 2;
-    append_unpaired(report, at, old, line, offset, pairs)
-}
-
-// Messages of the first 20 members that no pair names. Gives where they end.
-fn append_members(
-    report: &mut [u8],
+// Messages of the first 20 members that no pair names, in a lent buffer. `table` has the lines of the old file.
+fn report_members<'a>(
+    space: &'a mut [u8],
     words: &[u64],
     table: &[u64],
     to: &[u64],
     old: &[u8],
     pairs: &[u8],
-) -> usize {
-    let mut end = 0;
+) -> &'a [u8] {
+    let mut report = Text::new(space);
     let mut from = 0;
-    let mut turns: usize = 20;
-    while turns > 0 {
-        turns -= 1;
-        let found = first_unpaired(words, to, from);
-        match found {
-            Some(offset) => {
-                end = append_member(report, end, old, table, offset, pairs);
-                if offset < 65536 {
-                    from = offset + 1;
-                }
-            }
-            None => {
-                return end;
-            }
-        }
+    for _ in 0..20 {
+        let Some(offset) = first_unpaired(words, to, from) else {
+            break;
+        };
+        let line = blocks::block(table, offset) / 2;
+        append_unpaired(&mut report, old, line, offset, pairs);
+        from = offset.saturating_add(1);
     }
-    end
+    let Text { out, end } = report;
+    part(out, 0, end)
 }
 
 // Whether every offset of the old file has a pair. Where not, it was said of which: of the first 20, and how many more.
@@ -57,38 +37,37 @@ pub fn all_paired<E: Write>(
     old_name: &[u8],
     pairs_name: &[u8],
     err: &mut E,
-) -> bool
-    ensures { result ≡ true → unpaired_count (entry_of to.now) (offsets_of words.now) ≡ 0 }
+) -> Result<(), Trouble>
+    ensures { OnOk result (unpaired_count (entry_of to.now) (offsets_of words.now) ≡ 0) }
 {
     let count = count_unpaired(words, to);
     if count == 0 {
-        return true;
+        return Ok(());
     }
     let mut old = [0u8; 64];
     let old_end = append_name(&mut old, 0, old_name);
     let mut pairs = [0u8; 64];
     let pairs_end = append_name(&mut pairs, 0, pairs_name);
-    let mut report = [0u8; 8192];
-    let end = append_members(
-        &mut report,
+    let mut space = [0u8; 8192];
+    let report = report_members(
+        &mut space,
         words,
         table,
         to,
         part(&old, 0, old_end),
         part(&pairs, 0, pairs_end),
     );
-    if write_whole(err, part(&report, 0, end)).is_err() {
-        return false;
-    }
+    err.write_all(report).map_err(|_| Trouble)?;
     if count > 20 {
-        let more = (count - 20) as u64;
-        let _told = tell_number(
+        return Err(fail(
             err,
-            b"ERROR: ",
-            old_name,
-            more,
-            b" more offsets have no pair",
-        );
+            &[
+                Fragment::Name(old_name),
+                Fragment::Text(b": "),
+                Fragment::Number((count - 20) as u64),
+                Fragment::Text(b" more offsets have no pair"),
+            ],
+        ));
     }
-    false
+    Err(Trouble)
 }

@@ -1,55 +1,40 @@
 use pair_listings::{Job, Stage, first_page, named_set, next_piece};
 use std::io::Write;
-use tool_files::{incomplete, part, tell, write_whole};
+use tool_files::{Step, Trouble, not_listed, write_pieces};
 
-fn is_over(stage: Stage) -> bool {
-    match stage {
-        Stage::Lines => false,
-        Stage::Last => false,
-        Stage::Over => true,
-    }
-}
-
-// Writes the pair of each member of a set by a table, piece by piece. False where not all of it was written: it was said why.
+// Writes the pair of each member of a set by a table.
 pub fn write_pairs<W: Write, E: Write>(
     job: Job,
     words: &[u64],
     table: &[u64],
     out: &mut W,
     err: &mut E,
-) -> bool {
-    let mut buffer = [0u8; 65536];
-    let mut page = first_page(job);
-    let mut turns: usize = 1000000;
-    while turns > 0 {
-        turns -= 1;
-        let piece = next_piece(job, words, table, page, &mut buffer);
-        if !piece.whole {
-            let _told = tell(err, b"INCOMPLETE: not all could be listed", b"", b"");
-            return false;
-        }
-        if let Err(error) = write_whole(out, part(&buffer, 0, piece.length)) {
-            incomplete(err, &error);
-            return false;
-        }
-        page = piece.page;
-        let stage = page.stage;
-        if is_over(stage) {
-            return true;
-        }
-    }
-    let _told = tell(err, b"INCOMPLETE: not all could be listed", b"", b"");
-    false
+) -> Result<(), Trouble> {
+    write_pieces(
+        first_page(job),
+        |page, buffer| {
+            let piece = next_piece(job, words, table, page, buffer)?;
+            let over = matches!(piece.page.stage, Stage::Over);
+            Some(Step {
+                length: piece.length,
+                left: (!over).then_some(piece.page),
+            })
+        },
+        out,
+        err,
+    )
 }
 
 // The pairs file swapped: every pair by its new offset.
-pub fn write_back<W: Write, E: Write>(job: Job, from: &[u64], out: &mut W, err: &mut E) -> bool {
+pub fn write_back<W: Write, E: Write>(
+    job: Job,
+    from: &[u64],
+    out: &mut W,
+    err: &mut E,
+) -> Result<(), Trouble> {
     let mut named: [u64; 1024] = [0; 1024];
-    let made = named_set(from, &mut named);
-    let number = made.number;
-    if number != 0 {
-        let _told = tell(err, b"INCOMPLETE: not all could be listed", b"", b"");
-        return false;
+    if named_set(from, &mut named).is_err() {
+        return Err(not_listed(err));
     }
     write_pairs(job, &named, from, out, err)
 }

@@ -1,5 +1,0 @@
--- Its turns are counted down.
-use Rattle.layout_tool.proofs.options.unknown_option.Given as goal
-
-abbrev pub decreases-loop-turns : goal.decreases-loop-turns
-decreases-loop-turns l = l.turns
