@@ -4,7 +4,7 @@ ghost use Rattle.sets.specs.Outcomes.{outcome};
 ghost use Rattle.sets.specs.Refusals.{edited_of};
 ghost use Rattle.sets.specs.Rules.{with_capacity_rule, with_capacity_and_blocks_rule};
 
-use blocks::{block, change_blocks, copy_blocks, lesser};
+use blocks::{block, change_blocks, copy_blocks};
 use sets::{FixedBitSet, Refusal, blocks_of, check_new};
 
 // A fresh set of `bits` bits with no members. Asks 6 and 7.
@@ -23,7 +23,7 @@ fn fill_from(bits: usize, blocks: &[u64], words: &mut [u64])
 {
     let whole = bits / 64;
     copy_blocks(words, blocks, 0, whole);
-    let copied = lesser(whole, blocks.len());
+    let copied = whole.min(blocks.len());
     change_blocks(words, copied, whole, 0, 0);
     let rem = bits % 64;
     if rem != 0 {

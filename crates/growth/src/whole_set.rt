@@ -38,7 +38,7 @@ pub fn grow_and_insert(
 {
     if 65536 <= bit {
         set.check(words)?;
-        return Err(Refusal::NewTooLong);
+        return Err(Refusal::NewLength);
     }
     let grown = grow(set, words, bit + 1)?;
     change_block(words, bit / 64, 1 << (bit % 64), Change::Insert);

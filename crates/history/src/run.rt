@@ -23,7 +23,7 @@ fn check_run(
     check_new(a_bits, words)?;
     check_new(b_bits, other)?;
     if out.len() < steps.len() {
-        return Err(Refusal::NoRoom);
+        return Err(Refusal::Room);
     }
     Ok(())
 }

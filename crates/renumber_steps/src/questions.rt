@@ -45,17 +45,17 @@ pub fn pairs_number(old: bool, new: bool, beyond: bool, paired: bool) -> Result<
     ensures { number_of result ≡ pairs_number old new beyond paired }
 {
     if old {
-        return Err(Refusal::OldTwice);
+        return Err(Refusal::SharedOld);
     }
     if new {
-        return Err(Refusal::NewTwice);
+        return Err(Refusal::SharedNew);
     }
     if beyond {
-        return Err(Refusal::BeyondLength);
+        return Err(Refusal::Position);
     }
     if paired {
         Ok(())
     } else {
-        Err(Refusal::Unpaired)
+        Err(Refusal::NoPair)
     }
 }

@@ -11,23 +11,23 @@ use Rattle.sets.specs.Questions.{first}
 use Rattle.sets.specs.Refusals.{number, number_of, answer_of, edited_of}
 use Rattle.sets.specs.declared.fixed_bit_set.FixedBitSet.{FixedBitSet}
 use Rattle.sets.specs.declared.refusal.Refusal.{Refusal}
-use Rattle.sets.specs.declared.refusal.Refusal.TheVariants.{TooLong, TooFewWords, StrayBits, BeyondLength, NoRange, NewTooLong, NoRoom, NoPart, OldTwice, NewTwice, Unpaired}
+use Rattle.sets.specs.declared.refusal.Refusal.TheVariants.{Length, Words, StrayBits, Position, Range, NewLength, Room, Record, SharedOld, SharedNew, NoPair}
 use Rattle.sets.proofs.OutcomeLaws.{given_no}
 use Rattle.sets.proofs.QuestionLaws.{first_no}
 
 -- no question has the number 0
 pub number_ne0 : (r : Refusal) → number r ≡ 0 → ⊥
-number_ne0 TooLong e = omega (arith, e)
-number_ne0 TooFewWords e = omega (arith, e)
+number_ne0 Length e = omega (arith, e)
+number_ne0 Words e = omega (arith, e)
 number_ne0 StrayBits e = omega (arith, e)
-number_ne0 BeyondLength e = omega (arith, e)
-number_ne0 NoRange e = omega (arith, e)
-number_ne0 NewTooLong e = omega (arith, e)
-number_ne0 NoRoom e = omega (arith, e)
-number_ne0 NoPart e = omega (arith, e)
-number_ne0 OldTwice e = omega (arith, e)
-number_ne0 NewTwice e = omega (arith, e)
-number_ne0 Unpaired e = omega (arith, e)
+number_ne0 Position e = omega (arith, e)
+number_ne0 Range e = omega (arith, e)
+number_ne0 NewLength e = omega (arith, e)
+number_ne0 Room e = omega (arith, e)
+number_ne0 Record e = omega (arith, e)
+number_ne0 SharedOld e = omega (arith, e)
+number_ne0 SharedNew e = omega (arith, e)
+number_ne0 NoPair e = omega (arith, e)
 
 -- what a `?` hands on: the answer of a call that a refusal ends, whatever it would have given
 pub answer_refused : {A B : Type 0} (refused : ℕ → B) (accepted : A → B) (given_else : B) {n : ℕ} (r : Result A Refusal) (e : Refusal)

@@ -6,21 +6,21 @@ use Rattle.sets.specs.declared.answers.Told.{Told}
 use Rattle.sets.specs.declared.answers.Counted.{Counted}
 use Rattle.sets.specs.declared.answers.Found.{Found}
 use Rattle.sets.specs.declared.refusal.Refusal.{Refusal}
-use Rattle.sets.specs.declared.refusal.Refusal.TheVariants.{TooLong, TooFewWords, StrayBits, BeyondLength, NoRange, NewTooLong, NoRoom, NoPart, OldTwice, NewTwice, Unpaired}
+use Rattle.sets.specs.declared.refusal.Refusal.TheVariants.{Length, Words, StrayBits, Position, Range, NewLength, Room, Record, SharedOld, SharedNew, NoPair}
 
 -- the number of each question
 abbrev pub number : Refusal → ℕ
-number TooLong = 1
-number TooFewWords = 2
+number Length = 1
+number Words = 2
 number StrayBits = 3
-number BeyondLength = 4
-number NoRange = 5
-number NewTooLong = 6
-number NoRoom = 7
-number NoPart = 8
-number OldTwice = 10
-number NewTwice = 11
-number Unpaired = 12
+number Position = 4
+number Range = 5
+number NewLength = 6
+number Room = 7
+number Record = 8
+number SharedOld = 10
+number SharedNew = 11
+number NoPair = 12
 
 -- accepted calls give number 0
 abbrev pub number_of : {A : Type 0} → Result A Refusal → ℕ

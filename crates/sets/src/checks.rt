@@ -13,18 +13,18 @@ impl FixedBitSet {
         ensures { number_of result ≡ questions self words.now }
     {
         if 65536 < self.length {
-            return Err(Refusal::TooLong);
+            return Err(Refusal::Length);
         }
         let whole = self.length / 64;
         let rem = self.length % 64;
         if rem == 0 {
             if words.len() < whole {
-                return Err(Refusal::TooFewWords);
+                return Err(Refusal::Words);
             }
             return Ok(());
         }
         if words.len() <= whole {
-            return Err(Refusal::TooFewWords);
+            return Err(Refusal::Words);
         }
         if words[whole] >> rem != 0 {
             return Err(Refusal::StrayBits);
@@ -37,7 +37,7 @@ impl FixedBitSet {
         ensures { number_of result ≡ position_question self bit }
     {
         if self.length <= bit {
-            return Err(Refusal::BeyondLength);
+            return Err(Refusal::Position);
         }
         Ok(())
     }
@@ -51,11 +51,11 @@ impl FixedBitSet {
     }
 
     // Question 4 of each position of a list. Those that are out are counted: a test and a sum for each, with no branch.
-    pub(crate) fn ask_positions(self, positions: &[u64]) -> Result<(), Refusal>
+    fn ask_positions(self, positions: &[u64]) -> Result<(), Refusal>
         ensures { number_of result ≡ positions_question self positions.now }
     {
         if self.count_out(positions) != 0 {
-            return Err(Refusal::BeyondLength);
+            return Err(Refusal::Position);
         }
         Ok(())
     }
@@ -65,7 +65,7 @@ impl FixedBitSet {
         ensures { number_of result ≡ range_question start end self.length }
     {
         if end < start || self.length < end {
-            return Err(Refusal::NoRange);
+            return Err(Refusal::Range);
         }
         Ok(())
     }
@@ -75,7 +75,7 @@ impl FixedBitSet {
         ensures { number_of result ≡ part_question self part }
     {
         if part.high < part.low || self.length < part.high {
-            return Err(Refusal::NoPart);
+            return Err(Refusal::Record);
         }
         Ok(())
     }
@@ -118,10 +118,10 @@ pub fn check_new(bits: usize, words: &[u64]) -> Result<(), Refusal>
     ensures { number_of result ≡ new_questions bits (length words.now) }
 {
     if 65536 < bits {
-        return Err(Refusal::NewTooLong);
+        return Err(Refusal::NewLength);
     }
     if words.len() < blocks_of(bits) {
-        return Err(Refusal::NoRoom);
+        return Err(Refusal::Room);
     }
     Ok(())
 }

@@ -8,7 +8,6 @@ mod checks;
 mod conversions;
 mod fixed_bit_set;
 mod membership;
-mod questions;
 mod refusal;
 mod sizes;
 
@@ -17,9 +16,5 @@ pub use checked::Checked;
 pub use checks::check_new;
 pub use fixed_bit_set::FixedBitSet;
 pub use membership::member;
-pub use questions::{
-    ask_new, ask_part, ask_positions, ask_range, check, check_both, check_pair, check_part,
-    check_position, check_range, check_two,
-};
 pub use refusal::Refusal;
 pub use sizes::blocks_of;

@@ -5,17 +5,17 @@ ghost use Rattle.sets.specs.Refusals.{number};
 // record of a part; of pairs, that two have one old offset or one new one, and that a member has none. The helper's word of 0 is no answer, and no refusal.
 #[derive(Clone, Copy, Debug, PartialEq, Eq)]
 pub enum Refusal {
-    TooLong,
-    TooFewWords,
+    Length,
+    Words,
     StrayBits,
-    BeyondLength,
-    NoRange,
-    NewTooLong,
-    NoRoom,
-    NoPart,
-    OldTwice,
-    NewTwice,
-    Unpaired,
+    Position,
+    Range,
+    NewLength,
+    Room,
+    Record,
+    SharedOld,
+    SharedNew,
+    NoPair,
 }
 
 impl From<Refusal> for u64 {
@@ -23,17 +23,17 @@ impl From<Refusal> for u64 {
 
     fn from(refusal: Refusal) -> u64 {
         match refusal {
-            Refusal::TooLong => 1,
-            Refusal::TooFewWords => 2,
+            Refusal::Length => 1,
+            Refusal::Words => 2,
             Refusal::StrayBits => 3,
-            Refusal::BeyondLength => 4,
-            Refusal::NoRange => 5,
-            Refusal::NewTooLong => 6,
-            Refusal::NoRoom => 7,
-            Refusal::NoPart => 8,
-            Refusal::OldTwice => 10,
-            Refusal::NewTwice => 11,
-            Refusal::Unpaired => 12,
+            Refusal::Position => 4,
+            Refusal::Range => 5,
+            Refusal::NewLength => 6,
+            Refusal::Room => 7,
+            Refusal::Record => 8,
+            Refusal::SharedOld => 10,
+            Refusal::SharedNew => 11,
+            Refusal::NoPair => 12,
         }
     }
 }

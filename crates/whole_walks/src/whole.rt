@@ -143,7 +143,7 @@ pub fn walk_whole(
 {
     let both = Checked::both(a, words, b, other)?;
     if out.len() < steps.len() {
-        return Err(Refusal::NoRoom);
+        return Err(Refusal::Room);
     }
     let first = Records {
         one: first_part(a),

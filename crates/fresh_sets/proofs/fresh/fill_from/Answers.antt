@@ -13,7 +13,7 @@ use Rattle.fresh_sets.proofs.fresh.fill_from.Goals.{After-slice_known-3-1}
 -- what the two sweeps leave
 known : (c : After-slice_known-3-1) → c.change_blocks.new.words
     ≡ copied c.args.bits c.args.blocks.now c.args.words.now
-known c = rw (c.change_blocks.ensures, c.copy_blocks.ensures, c.lesser-copied.ensures)
+known c = rw (c.change_blocks.ensures, c.copy_blocks.ensures, c.min-copied.ensures)
 
 pub bounds-words-whole : goal.bounds-words-whole
 unfolding words_of

@@ -1,9 +1,0 @@
-use mathlib.Core.Path.{sym, ◌∙◌}
-use Rattle.sets.proofs.QuestionLaws.{first_no, first-yes}
-use Rattle.sets.proofs.questions.check_two.Goals as goal
-
-pub returns-then-number-ne0 : goal.returns-then-number-ne0
-returns-then-number-ne0 c = first_no _ c.check_both-number.ensures c.if-number-ne0.true
-
-pub returns : goal.returns
-returns c = first-yes (sym c.check_both-number.ensures ∙ c.if-number-ne0.false) c.ask_part.ensures
