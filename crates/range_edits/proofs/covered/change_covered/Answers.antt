@@ -4,12 +4,6 @@ use Rattle.range_edits.proofs.BlockChanges.{no_word, one_word, many-words}
 use native.Mathlib.Omega.{arith}
 use Rattle.range_edits.proofs.covered.change_covered.Goals as goal
 
-pub overflow_sub-last : goal.overflow_sub-last
-overflow_sub-last c = omega (arith, c.if-first-end_block.true)
-
-pub overflow_add-first : goal.overflow_add-first
-overflow_add-first c = omega (arith, c.if-first-last.true)
-
 pub returns-then-first-last : goal.returns-then-first-last
 returns-then-first-last c =
     let a = c.args in

@@ -1,13 +1,10 @@
-use mathlib.Core.Path.{refl, ap, ◌∙◌}
+use mathlib.Core.Path.{ap, ◌∙◌}
 use Prim.Native.Nat.{ℕ}
 use native.Mathlib.Omega.{arith}
 use Rattle.masks.specs.RangeMasks.{range_mask}
 use Rattle.masks.proofs.MaskLaws.{masks_some}
 use Rattle.masks.proofs.ShiftLaws.{first_mask, last_mask, only_mask}
 use Rattle.masks.proofs.range_masks.Masks.by_shifts.Goals as goal
-
-pub returns-then-end-start : goal.returns-then-end-start
-returns-then-end-start c = c.none.ensures _ _ c.if-end-start.true refl
 
 pub returns-then-first-last : goal.returns-then-first-last
 returns-then-first-last c =

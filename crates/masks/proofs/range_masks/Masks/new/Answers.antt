@@ -1,9 +1,5 @@
-use mathlib.Core.Path.{refl}
 use Rattle.masks.proofs.MaskLaws.{masks_some}
 use Rattle.masks.proofs.range_masks.Masks.new.Goals as goal
-
-pub returns-then-end-start : goal.returns-then-end-start
-returns-then-end-start c = c.none.ensures _ _ c.if-end-start.true refl
 
 pub returns : goal.returns
 returns c = masks_some _ _ c.if-end-start.false c.range_mask.ensures c.range_mask-2.ensures
