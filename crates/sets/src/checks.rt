@@ -47,7 +47,13 @@ impl FixedBitSet {
         ensures { result ≡ count_by (λ p. nat_le self.length p) positions.now }
     {
         let length = self.length as u64;
-        positions.iter().filter(|p| length <= **p).count()
+        let mut out: usize = 0;
+        for p in positions {
+            if length <= *p {
+                out += 1;
+            }
+        }
+        out
     }
 
     // Question 4 of each position of a list. Those that are out are counted: a test and a sum for each, with no branch.
