@@ -1,3 +1,4 @@
 pub mod CutLaws
 pub mod StartLaws
 pub mod TextLaws
+pub mod ReadLaws

@@ -1,6 +1,9 @@
 -- What an ended line makes of a reader of offsets.
 use Rattle.std.specs.Prelude.{◌≡◌, List, ℕ, take}
-use Rattle.offset_files.specs.Files.{File, take_line}
+use Rattle.text_lines.specs.Rests.{HoldsRest}
+use Rattle.text_lines.specs.declared.open_line.OpenLine.{OpenLine}
+use Rattle.offset_files.specs.Files.{File, Text, take_line}
+use Rattle.offset_files.specs.declared.reading.Reading.{Reading}
 use Rattle.offset_files.specs.Holds.{HoldsFile}
 use Rattle.offset_reads.specs.declared.reader.OffsetReader.{OffsetReader}
 
@@ -14,3 +17,8 @@ pub record Ended (r : OffsetReader) (line : List ℕ) (after : OffsetReader) : T
   pub table : after.table.ghost_name ≡ r.table.ghost_name
   pub report : after.report.ghost_name ≡ r.report.ghost_name
   pub holds : (f : File) (full : List ℕ) → line ≡ take 2052 full → HoldsReader f r → HoldsReader (take_line r.name.now full f) after
+
+-- a text that is read so far: its lines, and the bytes of the line that is not ended
+pub record HoldsText (t : Text) (r : Reading) (line : OpenLine) (words table report : List ℕ) : Type 0 where
+  pub file : HoldsFile t.file r words table report
+  pub rest : HoldsRest t.rest line.length line.bytes

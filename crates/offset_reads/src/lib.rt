@@ -1,7 +1,9 @@
-// Reads a text of offsets line by line, each as it ends.
+// Reads a text of offsets in pieces of any cut, and each of its lines as it ends.
 #![tactic(auto)]
 
 mod lines;
 mod reader;
+mod reads;
 
 pub use reader::OffsetReader;
+pub use reads::{finish, start, take};

@@ -3,3 +3,4 @@ pub mod HoldsLaws
 pub mod MessageLaws
 pub mod CutLaws
 pub mod Examples
+pub mod ReadLaws

@@ -1,6 +1,9 @@
 -- What an ended line makes of a reader of pairs.
 use Rattle.std.specs.Prelude.{◌≡◌, List, ℕ, take}
-use Rattle.pair_files.specs.Files.{PairFile, take_pair}
+use Rattle.text_lines.specs.Rests.{HoldsRest}
+use Rattle.text_lines.specs.declared.open_line.OpenLine.{OpenLine}
+use Rattle.text_lines.specs.declared.tally.Tally.{Tally}
+use Rattle.pair_files.specs.Files.{PairFile, PairText, take_pair}
 use Rattle.pair_files.specs.Holds.{HoldsPairs}
 use Rattle.pair_files.specs.declared.reader.PairReader.{PairReader}
 
@@ -15,3 +18,8 @@ pub record Ended (r : PairReader) (line : List ℕ) (after : PairReader) : Type 
   pub from : after.from.ghost_name ≡ r.from.ghost_name
   pub report : after.report.ghost_name ≡ r.report.ghost_name
   pub holds : (f : PairFile) (full : List ℕ) → line ≡ take 2052 full → HoldsReader f r → HoldsReader (take_pair r.name.now r.size full f) after
+
+-- a text that is read so far: its lines, and the bytes of the line that is not ended
+pub record HoldsText (t : PairText) (r : Tally) (line : OpenLine) (to from report : List ℕ) : Type 0 where
+  pub file : HoldsPairs t.file r to from report
+  pub rest : HoldsRest t.rest line.length line.bytes

@@ -1,6 +1,3 @@
-ghost use Rattle.std.specs.Prelude.{◌≡◌, List, ℕ, length};
-ghost use Rattle.pair_files.specs.Files.{no_pairs};
-ghost use Rattle.pair_files.specs.Holds.{HoldsPairs};
 ghost use Rattle.pair_files.specs.Readers.{Ended};
 
 use crate::lines::take_line;
@@ -15,42 +12,6 @@ pub struct PairReader<'a> {
     pub to: &'a mut [u64],
     pub from: &'a mut [u64],
     pub report: &'a mut [u8],
-}
-
-impl<'a> PairReader<'a> {
-    // Nothing is read. The tables are cleared.
-    pub fn new(
-        name: &'a [u8],
-        size: usize,
-        to: &'a mut [u64],
-        from: &'a mut [u64],
-        report: &'a mut [u8],
-    ) -> PairReader<'a>
-        ensures same_name { result.name.now ≡ name.now }
-        ensures same_size { result.size ≡ size }
-        ensures same_to { result.to.ghost_name ≡ to.entry.ghost_name }
-        ensures same_from { result.from.ghost_name ≡ from.entry.ghost_name }
-        ensures same_report { result.report.ghost_name ≡ report.entry.ghost_name }
-        ensures holds { length to.old ≡ 65536 → length from.old ≡ 65536 → HoldsPairs no_pairs result.tally result.to.now result.from.now result.report.now }
-    {
-        to.fill(0);
-        from.fill(0);
-        let tally = Tally {
-            lines: 0,
-            named: 0,
-            said: false,
-            bads: 0,
-            report: 0,
-        };
-        PairReader {
-            name,
-            size,
-            tally,
-            to,
-            from,
-            report,
-        }
-    }
 }
 
 impl<'a> LineReader for PairReader<'a> {

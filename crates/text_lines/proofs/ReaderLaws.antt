@@ -1,11 +1,13 @@
 -- A text that is read byte by byte, and what a reader then holds of it. Assumes nothing.
 use mathlib.Core.Path.{◌≡◌, refl, sym, ap, subst, ◌∙◌}
 use mathlib.Core.List.{List, [], ◌∷◌, ◌++◌, append-nil, append_assoc}
-use Prim.Native.Nat.{ℕ, ◌+◌, ◌<◌}
+use Prim.Native.Nat.{ℕ, ◌+◌, ◌≤◌, ◌<◌}
+use native.Mathlib.Omega.{arith}
 use native.Mathlib.Numerals.{add-one}
 use lib.ListN.{length, take, get_or}
-use lib.Seq.{take-suc}
-use Rattle.text_lines.specs.Rests.{HoldsRest}
+use lib.Seq.{take-suc, length-take-le}
+use Rattle.std.proofs.lemmas.List.{take_all}
+use Rattle.text_lines.specs.Rests.{HoldsRest, Within}
 use Rattle.text_lines.specs.Readers.{Reads, at_start, line_ends, byte_joins, Finishes, no_line, last_line, ReadTo}
 use Rattle.text_lines.specs.Texts.{Text, take_byte, take_bytes, at_end}
 use Rattle.text_lines.specs.declared.open_line.OpenLine.{OpenLine}
@@ -80,3 +82,20 @@ module _ {S F : Type 0} (Ended : S → List ℕ → S → Type 0) (step : List �
   finish_holds {s = s} {s' = s'} (last_line n e) t h =
       subst (λ (f : F). H f s') (sym (end_some step t (λ z. n (sym (ap length h.same) ∙ z))))
       (each s s' t.file t.rest (subst (λ (xs : List ℕ). Ended s (take 2052 xs) s') (sym h.same) e) h.file)
+
+-- what every ended line keeps is kept by a piece, and by the end
+module _ {S : Type 0} {Ended : S → List ℕ → S → Type 0} (K : S → Type 0) (each : (s s' : S) (line : List ℕ) → Ended s line s' → K s → K s') where
+  pub reads_keep : {s : S} {rest : List ℕ} {s' : S} {after bytes : List ℕ} → Reads Ended s rest bytes s' after → K s → K s'
+  reads_keep at_start k = k
+  reads_keep (line_ends {after = after} {s = s₁} {s' = s₂} r e) k = each s₁ s₂ (take 2052 after) e (reads_keep r k)
+  reads_keep (byte_joins r n) k = reads_keep r k
+
+  pub finish_keeps : {s s' : S} {rest : List ℕ} → Finishes Ended s rest s' → K s → K s'
+  finish_keeps (no_line z) k = k
+  finish_keeps {s = s} {s' = s'} {rest = rest} (last_line n e) k = each s s' (take 2052 rest) e k
+
+-- an open line holds the bytes that it has
+pub own_rest : (bytes : List ℕ) (n : ℕ) → Within n bytes → HoldsRest (take n bytes) n bytes
+own_rest bytes n w =
+    let long = length-take-le n bytes (omega (arith, w.fits, w.room)) in
+    record { line_long = w.room; rest_length = omega (arith, long, w.fits); rest_bytes = sym (take_all 2052 (take n bytes) (omega (arith, long, w.fits))) }

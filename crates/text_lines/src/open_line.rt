@@ -1,11 +1,12 @@
 ghost use Rattle.std.specs.Prelude.{◌≡◌, List, [], ◌∷◌, ◌++◌, ℕ, take};
-ghost use Rattle.text_lines.specs.Rests.{HoldsRest};
+ghost use Rattle.text_lines.specs.Rests.{HoldsRest, Within};
 
 // A line that is not ended: as many of its bytes as decide what it is, and how many that are.
 #[derive(Clone, Copy)]
 pub struct OpenLine {
     pub bytes: [u8; 2052],
     pub length: usize,
+    pub ghost within: { Within length bytes },
 }
 
 impl OpenLine {

@@ -10,7 +10,7 @@ use Rattle.offset_files.specs.Holds.{HoldsFile}
 use Rattle.offset_files.specs.declared.reading.Reading.{Reading}
 use Rattle.pair_files.specs.Files as Pairs
 use Rattle.pair_files.specs.Holds.{HoldsPairs}
-use Rattle.pair_files.specs.declared.reading.PairReading.{PairReading}
+use Rattle.text_lines.specs.declared.tally.Tally.{Tally}
 use Rattle.tool_files.specs.Loading.{Took, ReadSome, ReadWhole, Usable, UsablePairs}
 
 module _ {F : Type 0} {step : List ℕ → F → F} {none : Text F} where
@@ -31,24 +31,23 @@ module _ {F : Type 0} {step : List ℕ → F → F} {none : Text F} where
   read_end h k = record { text = h.text; holds = k (take_bytes step none h.text) h.holds }
 
 -- between two reads: the buffers are as long as at the start, and hold a text so far
-pub record Loading {F : Type 0} (step : List ℕ → F → F) (none : Text F) (H₀ H : Text F → Type 0) (line₀ a₀ b₀ report₀ line a b report : List ℕ) : Type 0 where
-  pub line_long : length line ≡ length line₀
+pub record Loading {F : Type 0} (step : List ℕ → F → F) (none : Text F) (H₀ H : Text F → Type 0) (a₀ b₀ report₀ a b report : List ℕ) : Type 0 where
   pub a_long : length a ≡ length a₀
   pub b_long : length b ≡ length b₀
   pub report_long : length report ≡ length report₀
   pub so_far : H₀ none → ReadSome step none H
 
 -- a whole text with no bad line
-pub usable : {name words table report : List ℕ} {r : Reading} → ReadWhole (Offsets.take_line name) Offsets.no_text (λ f. HoldsFile f r words table report) → r.bads ≡ 0 → Usable name words
+pub usable : {name words table report : List ℕ} {r : Reading} → ReadWhole (Offsets.take_line name) Offsets.no_text (λ f. HoldsFile f r words table report) → r.tally.bads ≡ 0 → Usable name words
 unfolding Offsets.file_of
-usable h none = record { text = h.text; good = sym h.holds.bads ∙ none; members = h.holds.members }
+usable h none = record { text = h.text; good = sym h.holds.counts.bads ∙ none; members = h.holds.members }
 
-pub usable_pairs : {name to from report : List ℕ} {size : ℕ} {r : PairReading} → ReadWhole (Pairs.take_pair name size) Pairs.no_text (λ f. HoldsPairs f r to from report) → r.bads ≡ 0
+pub usable_pairs : {name to from report : List ℕ} {size : ℕ} {r : Tally} → ReadWhole (Pairs.take_pair name size) Pairs.no_text (λ f. HoldsPairs f r to from report) → r.bads ≡ 0
     → UsablePairs name size to from
 unfolding Pairs.pair_file_of
 usable_pairs h none = record {
   text = h.text;
-  good = sym h.holds.bads ∙ none;
+  good = sym h.holds.counts.bads ∙ none;
   to_long = h.holds.to_long;
   to-words = h.holds.to-words;
   from_long = h.holds.from_long;

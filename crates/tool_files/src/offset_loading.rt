@@ -1,8 +1,8 @@
-ghost use Rattle.std.specs.Prelude.{◌≡◌, ◌≤◌, length, IfOk, OnOk};
+ghost use Rattle.std.specs.Prelude.{◌≡◌, length, IfOk, OnOk};
 ghost use Rattle.byte_texts.specs.Texts.{shown_name};
 ghost use Rattle.offset_files.specs.Files.{no_text, take_line};
-ghost use Rattle.offset_files.specs.Holds.{HoldsText};
-ghost use Rattle.tool_files.specs.Loading.{ReadSome, Usable};
+ghost use Rattle.offset_files.specs.Holds.{HoldsFile};
+ghost use Rattle.tool_files.specs.Loading.{ReadWhole, Usable};
 
 use crate::messages::Fragment::{Name, Number, Text};
 use crate::messages::{Trouble, fail, tell};
@@ -15,26 +15,27 @@ use offset_files::Reading;
 use offset_reads::{finish, start, take};
 use std::io::{Input, Read, Write};
 use std::rt::Files;
+use text_lines::OpenLine;
 
 // Reads a file to its end.
-fn read_pieces<F: Read>(
+fn read_offsets<F: Read>(
     file: &mut F,
     name: &[u8],
-    line: &mut [u8],
     words: &mut [u64],
     table: &mut [u64],
     report: &mut [u8],
 ) -> Result<Reading, Unread>
-    ensures { 2052 ≤ length line.old → length words.old ≡ 1024 → length table.old ≡ 65536
-        → IfOk result (λ reading. ReadSome (take_line name.now) no_text (λ t. HoldsText t reading line.new words.new table.new report.new)) }
+    ensures { length words.old ≡ 1024 → length table.old ≡ 65536
+        → IfOk result (λ reading. ReadWhole (take_line name.now) no_text (λ f. HoldsFile f reading words.new table.new report.new)) }
 {
     let mut buffer = [0u8; 65536];
+    let mut line = OpenLine::new();
     let mut now = start(words, table);
     let mut reads = Reads::new();
     while let Some(count) = reads.read(file, &mut buffer)? {
-        now = take(&buffer[..count], now, name, line, words, table, report);
+        now = take(&buffer[..count], now, name, &mut line, words, table, report);
     }
-    Ok(now)
+    Ok(finish(now, name, &line, words, table, report))
 }
 
 // What is said of a file that was read. Trouble where it may not be used.
@@ -45,7 +46,7 @@ fn tell_file<E: Write>(
     err: &mut E,
     report: &[u8],
 ) -> Result<(), Trouble> {
-    tell_report(name, err, report, reading.report)?;
+    tell_report(name, err, report, reading.tally.report)?;
     if reading.repeats > 20 {
         tell(
             err,
@@ -58,8 +59,8 @@ fn tell_file<E: Write>(
             ],
         )?;
     }
-    tell_bads(name, err, reading.bads)?;
-    if reading.named == 0 && !allow_empty {
+    tell_bads(name, err, reading.tally.bads)?;
+    if reading.tally.named == 0 && !allow_empty {
         return Err(fail(
             err,
             &[
@@ -85,15 +86,13 @@ fn load_open<F: Read, E: Write>(
     if words.len() != 1024 || table.len() != 65536 {
         return Err(Trouble);
     }
-    let mut line = [0u8; 2052];
     let mut report = [0u8; 16384];
-    let open = match read_pieces(file, shown, &mut line, words, table, &mut report) {
-        Ok(open) => open,
+    let reading = match read_offsets(file, shown, words, table, &mut report) {
+        Ok(reading) => reading,
         Err(unread) => return Err(tell_unread(name, err, unread)),
     };
-    let reading = finish(open, shown, &line, words, table, &mut report);
     tell_file(reading, name, allow_empty, err, &report)?;
-    if reading.bads == 0 {
+    if reading.tally.bads == 0 {
         Ok(())
     } else {
         Err(Trouble)

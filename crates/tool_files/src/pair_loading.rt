@@ -1,8 +1,8 @@
-ghost use Rattle.std.specs.Prelude.{◌≡◌, ◌≤◌, length, IfOk, OnOk};
+ghost use Rattle.std.specs.Prelude.{◌≡◌, length, IfOk, OnOk};
 ghost use Rattle.byte_texts.specs.Texts.{shown_name};
 ghost use Rattle.pair_files.specs.Files.{no_text, take_pair};
-ghost use Rattle.pair_files.specs.Holds.{HoldsText};
-ghost use Rattle.tool_files.specs.Loading.{ReadSome, UsablePairs};
+ghost use Rattle.pair_files.specs.Holds.{HoldsPairs};
+ghost use Rattle.tool_files.specs.Loading.{ReadWhole, UsablePairs};
 
 use crate::messages::Fragment::{Name, Text};
 use crate::messages::{Trouble, fail};
@@ -11,43 +11,53 @@ use crate::parts::part;
 use crate::reads::{Reads, Unread};
 use crate::reports::{tell_bads, tell_report, tell_unread};
 use byte_texts::append_name;
-use pair_files::{PairReading, finish, start, take};
+use pair_files::{finish, start, take};
 use std::io::{Input, Read, Write};
 use std::rt::Files;
+use text_lines::{OpenLine, Tally};
 
 // Reads a file to its end.
-fn read_pair_pieces<F: Read>(
+fn read_pairs<F: Read>(
     file: &mut F,
     name: &[u8],
     size: usize,
-    line: &mut [u8],
     to: &mut [u64],
     from: &mut [u64],
     report: &mut [u8],
-) -> Result<PairReading, Unread>
-    ensures { 2052 ≤ length line.old → length to.old ≡ 65536 → length from.old ≡ 65536
-        → IfOk result (λ reading. ReadSome (take_pair name.now size) no_text (λ t. HoldsText t reading line.new to.new from.new report.new)) }
+) -> Result<Tally, Unread>
+    ensures { length to.old ≡ 65536 → length from.old ≡ 65536
+        → IfOk result (λ tally. ReadWhole (take_pair name.now size) no_text (λ f. HoldsPairs f tally to.new from.new report.new)) }
 {
     let mut buffer = [0u8; 65536];
+    let mut line = OpenLine::new();
     let mut now = start(to, from);
     let mut reads = Reads::new();
     while let Some(count) = reads.read(file, &mut buffer)? {
-        now = take(&buffer[..count], now, name, size, line, to, from, report);
+        now = take(
+            &buffer[..count],
+            now,
+            name,
+            size,
+            &mut line,
+            to,
+            from,
+            report,
+        );
     }
-    Ok(now)
+    Ok(finish(now, name, size, &line, to, from, report))
 }
 
 // What is said of a file that was read. Trouble where it may not be used.
 fn tell_pairs<E: Write>(
-    reading: PairReading,
+    tally: Tally,
     name: &[u8],
     allow_empty: bool,
     err: &mut E,
     report: &[u8],
 ) -> Result<(), Trouble> {
-    tell_report(name, err, report, reading.report)?;
-    tell_bads(name, err, reading.bads)?;
-    if reading.pairs == 0 && !allow_empty {
+    tell_report(name, err, report, tally.report)?;
+    tell_bads(name, err, tally.bads)?;
+    if tally.named == 0 && !allow_empty {
         return Err(fail(
             err,
             &[
@@ -74,15 +84,13 @@ fn load_open_pairs<F: Read, E: Write>(
     if to.len() != 65536 || from.len() != 65536 {
         return Err(Trouble);
     }
-    let mut line = [0u8; 2052];
     let mut report = [0u8; 16384];
-    let open = match read_pair_pieces(file, shown, size, &mut line, to, from, &mut report) {
-        Ok(open) => open,
+    let tally = match read_pairs(file, shown, size, to, from, &mut report) {
+        Ok(tally) => tally,
         Err(unread) => return Err(tell_unread(name, err, unread)),
     };
-    let reading = finish(open, shown, size, &line, to, from, &mut report);
-    tell_pairs(reading, name, allow_empty, err, &report)?;
-    if reading.bads == 0 {
+    tell_pairs(tally, name, allow_empty, err, &report)?;
+    if tally.bads == 0 {
         Ok(())
     } else {
         Err(Trouble)

@@ -1,13 +1,12 @@
 use Rattle.std.proofs.Common.{refl, arith}
-use Rattle.tool_files.proofs.LoadLaws.{read_none, read_more}
-use Rattle.tool_files.proofs.offset_loading.read_pieces.Goals as goal
+use Rattle.tool_files.proofs.LoadLaws.{read_none, read_more, read_end}
+use Rattle.tool_files.proofs.pair_loading.read_pairs.Goals as goal
 
 pub loop-count-init : goal.loop-count-init
-loop-count-init g c = record { line_long = refl; a_long = refl; b_long = refl; report_long = refl; so_far = read_none }
+loop-count-init g c = record { a_long = refl; b_long = refl; report_long = refl; so_far = read_none }
 
 pub loop-count-preserved : goal.loop-count-preserved
 loop-count-preserved g c = record {
-  line_long = omega arith;
   a_long = omega arith;
   b_long = omega arith;
   report_long = omega arith;
@@ -15,4 +14,4 @@ loop-count-preserved g c = record {
 }
 
 pub returns : goal.returns
-returns g c long a b = c.loop-count.invariant.so_far (c.start-now.ensures _ _ long a b)
+returns g c a b = read_end (c.loop-count.invariant.so_far (record { file = c.start-now.ensures _ a b; rest = c.new-line.ensures })) c.finish.ensures

@@ -1,0 +1,10 @@
+use mathlib.Core.Path.{sym}
+use Rattle.pair_files.proofs.ReadLaws.{piece_holds}
+use Rattle.pair_files.proofs.reads.take.Goals as goal
+
+-- each buffer is what the reader left of it
+pub returns : goal.returns
+returns c = λ t h.
+    let same = c.take_piece.ensures in
+    rw (c.to-1.given.1.1 (sym same.same_to), c.from-1.given.1.1 (sym same.same_from), c.report-1.given.1.1 (sym same.same_report))
+    (piece_holds _ t h.file (same.read t.rest h.rest))
