@@ -53,9 +53,5 @@ pub fn pairs_number(old: bool, new: bool, beyond: bool, paired: bool) -> Result<
     if beyond {
         return Err(Refusal::Position);
     }
-    if paired {
-        Ok(())
-    } else {
-        Err(Refusal::NoPair)
-    }
+    if paired { Ok(()) } else { Err(Refusal::NoPair) }
 }
