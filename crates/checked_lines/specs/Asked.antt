@@ -10,7 +10,7 @@ use Rattle.sets.specs.declared.answers.Counted.{Counted}
 use Rattle.sets.specs.declared.answers.Told.{Told}
 use Rattle.edits.specs.Rules.{insert_rule, copy_bit_rule}
 use Rattle.edits.specs.Rules.{insert_range_rule}
-use Rattle.sets.specs.declared.answers.Found.{Found}
+use Rattle.sets.specs.Outcomes.{Found}
 use Rattle.std.specs.Prelude.{None}
 use Rattle.tests.specs.Rules.{is_full_rule, is_clear_rule}
 use Rattle.tests.specs.Rules.{count_ones_rule}

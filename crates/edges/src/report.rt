@@ -1,4 +1,4 @@
-use sets::{Counted, Edited, FixedBitSet, Found, Refusal, Told};
+use sets::{Counted, Edited, FixedBitSet, Refusal, Told};
 use std::io::Print;
 use std::{fmt, io};
 
@@ -141,9 +141,12 @@ impl<'r, R: Print> Report<'r, R> {
         number: u64,
         expected: Option<usize>,
     ) -> io::Result<()> {
-        let answer = Found::from(answer);
-        print!(self.rt; "{text} -> {}, {}", Number(answer.number), Place(answer.at))?;
-        self.judge(answer.number == number && answer.at == expected)
+        let (given, at) = match answer {
+            Ok(at) => (0, at),
+            Err(refusal) => (u64::from(refusal), None),
+        };
+        print!(self.rt; "{text} -> {}, {}", Number(given), Place(at))?;
+        self.judge(given == number && at == expected)
     }
 
     pub fn walked(

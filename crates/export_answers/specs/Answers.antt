@@ -1,6 +1,6 @@
 -- Answers as C takes them.
 use Rattle.std.specs.Prelude.{true, false, ℕ, Option, Some, None}
-use Rattle.sets.specs.declared.answers.Found.{Found}
+use Rattle.sets.specs.Outcomes.{Found}
 use Rattle.walks.specs.Rules.{Stepped, SteppedPair}
 use Rattle.export_answers.specs.declared.answers.Place.{Place}
 use Rattle.export_answers.specs.declared.answers.FbsFound.{FbsFound}

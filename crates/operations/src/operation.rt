@@ -1,4 +1,4 @@
-// What two bits make.
+// What two bits make. The rules name it; each call chooses its closure once, before the loop.
 #[derive(Clone, Copy)]
 pub enum Operation {
     Union,

@@ -1,6 +1,6 @@
 use sets::Part;
 
-// Which end of a part a step takes.
+// Which end of a part a step takes. The rules name it, and it is chosen once for a step, before any loop.
 #[derive(Clone, Copy)]
 pub enum End {
     Front,

@@ -11,24 +11,16 @@ use word_bits::{leading_zeros, trailing_zeros};
 fn first_word<S: Select>(words: &[u64], other: &[u64], first: usize, end: usize) -> Option<usize>
     ensures { FirstWord (selected_word S.selection words.now other.now) first end result }
 {
-    for k in first..end {
-        if selected_word::<S>(words, other, k) != 0 {
-            return Some(k);
-        }
-    }
-    None
+    (first..end).find(|k| selected_word::<S>(words, other, *k) != 0)
 }
 
 // The last of them.
 fn last_word<S: Select>(words: &[u64], other: &[u64], first: usize, end: usize) -> Option<usize>
     ensures { LastWord (selected_word S.selection words.now other.now) first end result }
 {
-    for k in (first..end).rev() {
-        if selected_word::<S>(words, other, k) != 0 {
-            return Some(k);
-        }
-    }
-    None
+    (first..end)
+        .rev()
+        .find(|k| selected_word::<S>(words, other, *k) != 0)
 }
 
 // The smallest selected position from low up to the end of high's word: high is the caller's to ask, so that no word but the first is cut.

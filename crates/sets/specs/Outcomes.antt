@@ -1,13 +1,10 @@
 -- What a call gives, refused or accepted.
-use Rattle.std.specs.Prelude.{Bool, false, cond, List, [], ◌∷◌, ℕ, zero, suc}
+use Rattle.std.specs.Prelude.{Bool, false, cond, Option, Some, None, List, [], ◌∷◌, ℕ, zero, suc}
 use Rattle.sets.specs.Members.{Members, write, set_of}
 use Rattle.sets.specs.declared.fixed_bit_set.FixedBitSet.{FixedBitSet}
 use Rattle.sets.specs.declared.answers.Edited.{Edited}
 use Rattle.sets.specs.declared.answers.Told.{Told}
 use Rattle.sets.specs.declared.answers.Counted.{Counted}
-use Rattle.sets.specs.declared.answers.Found.{Found}
-use Rattle.std.specs.Prelude.{Option}
-use Rattle.std.specs.Prelude.{Some, None}
 
 -- a number other than 0 refuses; accepted calls give number 0
 unfoldable pub given : {A : Type 0} → ℕ → (ℕ → A) → A → A
@@ -44,6 +41,11 @@ abbrev pub position_of : Option ℕ → List ℕ
 position_of (Some p) = p ∷ []
 position_of None = []
 
--- a call that answers a position; refused, none
+-- a call that answers a position: its number, and the position or none
+pub record Found : Type 0 where
+  pub number : ℕ
+  pub at : Option ℕ
+
+-- refused, none
 abbrev pub found : ℕ → Option ℕ → Found
 found n at = given n (λ m. record { number = m; at = None }) (record { number = 0; at = at })

@@ -4,7 +4,7 @@ use Rattle.sets.specs.declared.fixed_bit_set.FixedBitSet.{FixedBitSet}
 use Rattle.sets.specs.declared.answers.Edited.{Edited}
 use Rattle.sets.specs.declared.answers.Told.{Told}
 use Rattle.sets.specs.declared.answers.Counted.{Counted}
-use Rattle.sets.specs.declared.answers.Found.{Found}
+use Rattle.sets.specs.Outcomes.{Found}
 use Rattle.sets.specs.declared.refusal.Refusal.{Refusal}
 use Rattle.sets.specs.declared.refusal.Refusal.TheVariants.{Length, Words, StrayBits, Position, Range, NewLength, Room, Record, SharedOld, SharedNew, NoPair}
 

@@ -1,6 +1,6 @@
 use crate::fixed_bit_set::FixedBitSet;
 
-// Number 0 is an accepted call.
+// Answers as C takes them, each with its number. Number 0 is an accepted call.
 #[repr(C)]
 #[derive(Clone, Copy)]
 pub struct Edited {
@@ -20,12 +20,6 @@ pub struct Told {
 pub struct Counted {
     pub number: u64,
     pub count: usize,
-}
-
-#[derive(Clone, Copy)]
-pub struct Found {
-    pub number: u64,
-    pub at: Option<usize>,
 }
 
 // The record of a part of a walk: what is left of it are its positions from low up to high, which is not included.

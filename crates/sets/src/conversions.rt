@@ -1,11 +1,11 @@
 ghost use Rattle.std.specs.Prelude.{◌≡◌};
-ghost use Rattle.sets.specs.Refusals.{told_of, counted_of, found_of, edited_of};
+ghost use Rattle.sets.specs.Refusals.{told_of, counted_of, edited_of};
 
-use crate::answers::{Counted, Edited, Found, Told};
+use crate::answers::{Counted, Edited, Told};
 use crate::fixed_bit_set::FixedBitSet;
 use crate::refusal::Refusal;
 
-// Each answer as a record, with its number.
+// Each answer as C takes it.
 impl From<Result<bool, Refusal>> for Told {
     ghost from_gives = { λ a r. r ≡ told_of a };
 
@@ -29,20 +29,6 @@ impl From<Result<usize, Refusal>> for Counted {
             Err(refusal) => Counted {
                 number: refusal.into(),
                 count: 0,
-            },
-        }
-    }
-}
-
-impl From<Result<Option<usize>, Refusal>> for Found {
-    ghost from_gives = { λ a r. r ≡ found_of a };
-
-    fn from(answer: Result<Option<usize>, Refusal>) -> Found {
-        match answer {
-            Ok(at) => Found { number: 0, at },
-            Err(refusal) => Found {
-                number: refusal.into(),
-                at: None,
             },
         }
     }

@@ -11,7 +11,7 @@ mod membership;
 mod refusal;
 mod sizes;
 
-pub use answers::{Counted, Edited, Found, Part, Told};
+pub use answers::{Counted, Edited, Part, Told};
 pub use checked::Checked;
 pub use checks::check_new;
 pub use fixed_bit_set::FixedBitSet;

@@ -2,13 +2,12 @@
 use Rattle.std.specs.Prelude.{List, ℕ, not}
 use Rattle.sets.specs.Members.{read}
 use Rattle.sets.specs.Questions.{questions, range_questions}
-use Rattle.sets.specs.Outcomes.{told, counted, found}
+use Rattle.sets.specs.Outcomes.{Found, told, counted, found}
 use Rattle.sets.specs.declared.fixed_bit_set.FixedBitSet.{FixedBitSet}
 use Rattle.sets.specs.declared.answers.Told.{Told}
 use Rattle.word_bits.specs.Counts.{some}
 use Rattle.tests.specs.Tests.{all_in, any_in, ones_in, zeroes_in, least, greatest}
 use Rattle.sets.specs.declared.answers.Counted.{Counted}
-use Rattle.sets.specs.declared.answers.Found.{Found}
 
 -- `contains` tells membership: no at or above L
 abbrev pub contains_rule : FixedBitSet → List ℕ → ℕ → Told

@@ -3,7 +3,7 @@ ghost use Rattle.word_bits.specs.LastBit.{last_bit, last_bit_rule};
 
 use crate::counts::trailing_zeros;
 
-// The answer as a record. Number 9 refuses a word of 0.
+// The answer as C takes it. Number 9 refuses a word of 0.
 #[repr(C)]
 #[derive(Clone, Copy, Debug, PartialEq, Eq)]
 pub struct LastBit {
