@@ -19,7 +19,7 @@ pub struct Compared {
     pub order: u64,
 }
 
-// Whether no word differs, of as many words.
+// Whether no word differs, of as many words. Slices: that a word fits in 64 bits is not known of a slice that is a field.
 fn same(words: &[u64], other: &[u64]) -> bool
     ensures { length words.now ≡ length other.now
         → result ≡ all (length words.now * 64) (λ (p : ℕ). beq (bit_of words.now p) (bit_of other.now p)) }
@@ -27,7 +27,7 @@ fn same(words: &[u64], other: &[u64]) -> bool
     words == other
 }
 
-// The order of as many words as unsigned numbers: the first that differ decide.
+// The order of as many words as unsigned numbers: the first that differ decide. Slices, as in the one above.
 fn words_order(words: &[u64], other: &[u64]) -> Ordering
     ensures { length words.now ≡ length other.now
         → order_number result ≡ words_order 0 (length words.now) (bit_of words.now) (bit_of other.now) }

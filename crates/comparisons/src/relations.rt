@@ -1,22 +1,25 @@
 ghost use Rattle.std.specs.Prelude.{not, ◌&&◌, ◌≡◌, ℕ, ◌*◌, length};
 ghost use Rattle.word_bits.specs.Counts.{some};
+ghost use Rattle.sets.specs.CheckedSets.{members};
 ghost use Rattle.sets.specs.Members.{bit_of};
 ghost use Rattle.sets.specs.Refusals.{told_of};
+ghost use Rattle.comparisons.specs.Relations.{disjoint};
 ghost use Rattle.comparisons.specs.Rules.{is_disjoint_rule, is_subset_rule, is_superset_rule};
 
 use crate::search::first_joined;
 use sets::{Checked, FixedBitSet, Refusal};
 use tests::first_other;
 
-// Whether no bit is set in both: beyond the words that both have there is none.
-fn disjoint_by_words(words: &[u64], other: &[u64]) -> bool
-    ensures { result ≡ not (some (length words.now * 64) (λ (p : ℕ). bit_of words.now p && bit_of other.now p)) }
+// Whether no member is in both: beyond the words that both have there is none.
+fn disjoint_by_words(a: Checked, b: Checked) -> bool
+    ensures { result ≡ disjoint (members a.entry) (members b.entry) }
 {
-    let shared = words.len().min(other.len());
-    shared <= first_joined(words, other, |x, y| x & y)
+    let shared = a.words.len().min(b.words.len());
+    shared <= first_joined(a.words, b.words, |x, y| x & y)
 }
 
 // Whether each bit of the first words is set in the others: word by word where both have words, and beyond them none.
+// Slices: that a word fits in 64 bits is known of a slice that is a parameter, and not of one that is a field.
 fn subset_by_words(words: &[u64], other: &[u64]) -> bool
     ensures { result ≡ not (some (length words.now * 64) (λ (p : ℕ). bit_of words.now p && not (bit_of other.now p))) }
 {
@@ -37,7 +40,7 @@ pub fn is_disjoint(
     ensures { told_of result ≡ is_disjoint_rule a words.now b other.now }
 {
     let (a, b) = Checked::both(a, words, b, other)?;
-    Ok(disjoint_by_words(a.words, b.words))
+    Ok(disjoint_by_words(a, b))
 }
 
 // Whether each member of the first set is in the second. Asks 1 to 3 of both sets.

@@ -12,9 +12,9 @@ use Rattle.masks.specs.Ranges.{covers}
 use Rattle.masks.proofs.RangeLaws.{covers-yes, covers_below, covers_above}
 use Rattle.blocks.specs.Sweeps.{swept}
 use Rattle.blocks.proofs.BlockLaws.{length-swept, swept_in, swept_out, swept_is, swept_ext, swept_same, zeroed, zeroed_is}
-use Rattle.operations.specs.Operations.{joined, joined_word, made_word, padded}
+use Rattle.operations.specs.Operations.{joined, joined_word, padded}
 use Rattle.operations.specs.declared.operation.Operation.{Operation}
-use Rattle.operations.proofs.WordJoins.{word_by, first_alone, second_alone}
+use Rattle.operations.proofs.WordJoins.{first_alone, second_alone}
 
 pub padded_in : (n : ℕ) (ws : List ℕ) (k : ℕ) → k < n → padded n ws k ≡ get_or ws k 0
 padded_in n ws k h = ap (λ (t : Bool). cond t (get_or ws k 0) 0) (lt-ltb k n h)
@@ -28,11 +28,6 @@ pub record Words (ws : List ℕ) : Type 0 where
   pub fits : (k : ℕ) → get_or ws k 0 < 2 ^ 64
 
 module _ {op o : Operation} (told : op ≡ o) where
-  -- both have words
-  pub join_by : (end : ℕ) {ws vs : List ℕ} → Words ws → Words vs
-      → swept 0 end (λ k w. made_word o w (get_or vs k 0)) ws ≡ swept 0 end (λ k w. joined_word op w (get_or vs k 0)) ws
-  join_by end {ws} fw fv = swept_ext 0 end _ _ ws (λ k l. rw told (word_by o _ _ (fw.fits k) (fv.fits k)))
-
   -- the first alone has: they stay, or are cleared
   pub first_stays : joined o true false ≡ true → (first end : ℕ) {ws : List ℕ} → Words ws → ws ≡ swept first end (λ k w. joined_word op w 0) ws
   first_stays y first end {ws} fw = swept_same first end _ ws (λ k l. rw told (ap (λ (t : Bool). cond t (get_or ws k 0) 0) (sym y) ∙ first_alone o _ (fw.fits k)))

@@ -8,7 +8,7 @@ use lib.Dec.{lit<}
 use Rattle.word_bits.specs.Digits.{digit}
 use Rattle.word_bits.proofs.Digits.{digit-number, number_is, number_lt, digit_of_zero}
 use Rattle.word_bits.proofs.Operations.{digit_and, digit_or, digit-xor, digit_not}
-use Rattle.operations.specs.Operations.{joined, joined_word, made_word}
+use Rattle.operations.specs.Operations.{joined, joined_word, made_word, Makes}
 use Rattle.operations.specs.declared.operation.Operation.{Operation}
 use Rattle.operations.specs.declared.operation.Operation.TheVariants.{Union, Intersection, Difference, SymmetricDifference}
 
@@ -34,6 +34,10 @@ word_by Difference a b ha hb =
     joined_is Difference a b (bit_and a (2 ^ 64 - 1 - b)) (lt_of_le_of_lt (and_le_l a (2 ^ 64 - 1 - b)) ha)
     (λ j l. digit_and a (2 ^ 64 - 1 - b) j ∙ ap (λ (t : Bool). digit a j && t) (digit_not 64 b j hb l))
 word_by SymmetricDifference a b ha hb = joined_is SymmetricDifference a b (bit_xor a b) (xor_lt 64 a b ha hb) (λ j l. digit-xor a b j)
+
+-- a call that makes what the operators make joins digit by digit
+pub joins : (op : Operation) {post : ℕ → ℕ → ℕ → Type 0} → ((a b r : ℕ) → post a b r → r ≡ made_word op a b) → Makes post (joined_word op)
+joins op h = λ a b r ha hb p. h a b r p ∙ word_by op a b ha hb
 
 -- ---- with nothing on one side
 

@@ -1,5 +1,5 @@
 -- What an operation does to two bits and to two words.
-use Rattle.std.specs.Prelude.{◌≡◌, Bool, cond, not, ◌&&◌, ◌||◌, List, ℕ, ◌-◌, ◌^◌, ltb, get_or}
+use Rattle.std.specs.Prelude.{◌≡◌, Bool, cond, not, ◌&&◌, ◌||◌, List, ℕ, ◌-◌, ◌^◌, ◌<◌, ltb, get_or}
 use Rattle.std.specs.Bool.{xor}
 use Rattle.std.specs.Int.Bits.{bit_and, bit_or, bit_xor}
 use Rattle.word_bits.specs.Digits.{digit, number}
@@ -24,9 +24,9 @@ made_word Intersection a b = bit_and a b
 made_word Difference a b = bit_and a (2 ^ 64 - 1 - b)
 made_word SymmetricDifference a b = bit_xor a b
 
--- a call on two words, with `post` for what it can return, makes `op` of them
+-- a call on two words of 64 bits, with `post` for what it can return, makes `op` of them
 abbrev pub Makes : (ℕ → ℕ → ℕ → Type 0) → (ℕ → ℕ → ℕ) → Type 0
-Makes post op = (a b r : ℕ) → post a b r → r ≡ op a b
+Makes post op = (a b r : ℕ) → a < 2 ^ 64 → b < 2 ^ 64 → post a b r → r ≡ op a b
 
 -- word k of a set of n words: 0 from n up
 abbrev pub padded : ℕ → List ℕ → ℕ → ℕ

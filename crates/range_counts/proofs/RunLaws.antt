@@ -2,7 +2,7 @@
 use mathlib.Core.Path.{◌≡◌, refl, sym, ap, ap₂, ◌∙◌}
 use mathlib.Core.Bool.{Bool, false}
 use mathlib.Core.List.{List, [], ◌∷◌}
-use Prim.Native.Nat.{ℕ, suc, ◌+◌, ◌-◌, ◌*◌, ◌/◌, ◌%◌, ◌≤◌, ◌<◌}
+use Prim.Native.Nat.{ℕ, suc, ◌+◌, ◌-◌, ◌*◌, ◌/◌, ◌%◌, ◌≤◌, ◌<◌, min}
 use native.Mathlib.Nat.{zero-add}
 use native.Mathlib.Omega.{arith}
 use lib.ListN.{length, get_or, take, drop, length-drop}
@@ -86,3 +86,16 @@ words_between ws a b h e =
         let r : j % 64 ≡ (a * 64 + j) % 64 = omega arith in
         ap (λ (x : ℕ). digit x (j % 64)) (get_or-take (b - a) (drop a ws) (j / 64) 0 (omega arith) ∙ get_or-drop a ws (j / 64) 0)
         ∙ ap₂ (λ (k i : ℕ). digit (get_or ws k 0) i) q r
+
+-- those of the first words
+pub first_words : (ws : List ℕ) (n : ℕ) → n ≤ length ws → count (length (take n ws) * 64) (bit_of (take n ws)) ≡ count (n * 64) (bit_of ws)
+unfolding bit_of
+first_words ws n e =
+    ap (λ (m : ℕ). count (m * 64) (bit_of (take n ws))) (length-take-le n ws e)
+    ∙ count_ext (n * 64) (bit_of (take n ws)) (bit_of ws) (λ j l. ap (λ (x : ℕ). digit x (j % 64)) (get_or-take n ws (j / 64) 0 (omega arith)))
+
+-- where there are no more, all of them are counted
+pub all_words : {r : ℕ} (ws : List ℕ) → length ws ≤ 1024 → r ≡ count (min (length ws) 1024 * 64) (bit_of ws) → r ≡ count (length ws * 64) (bit_of ws)
+all_words ws few e =
+    let n : min (length ws) 1024 ≡ length ws = omega arith in
+    e ∙ ap (λ (m : ℕ). count (m * 64) (bit_of ws)) n

@@ -1,4 +1,4 @@
-ghost use Rattle.std.specs.Prelude.{◌&&◌, ◌≡◌, ℕ, ◌*◌, ◌≤◌, length};
+ghost use Rattle.std.specs.Prelude.{◌&&◌, ◌≡◌, ℕ, ◌*◌, ◌≤◌, min, length};
 ghost use Rattle.word_bits.specs.Counts.{count};
 ghost use Rattle.masks.specs.Ranges.{covers};
 ghost use Rattle.sets.specs.Members.{bit_of};
@@ -8,11 +8,11 @@ ghost use Rattle.tests.specs.Rules.{count_ones_rule, count_zeroes_rule};
 use masks::Masks;
 use sets::{FixedBitSet, Refusal};
 
-// How many bits of the words are set: of at most 1,024, which is as many as a set has.
+// How many bits of the first 1,024 words are set, which is as many words as a set has.
 pub fn ones_of_words(words: &[u64]) -> usize
-    requires { length words.now ≤ 1024 }
-    ensures { result ≡ count (length words.now * 64) (bit_of words.now) }
+    ensures { result ≡ count (min (length words.now) 1024 * 64) (bit_of words.now) }
 {
+    let words = &words[..words.len().min(1024)];
     words.iter().map(|word| word_bits::count_ones(*word)).sum()
 }
 

@@ -17,11 +17,11 @@ use Rattle.tests.proofs.RowLaws.{count_clip}
 use Rattle.range_counts.proofs.RunLaws.{words_between}
 use Rattle.two_set_counts.specs.Helpers.{ones_from}
 
-module _ (set : FixedBitSet) (ws : List ℕ) (sound : Sound set.length ws) where
-  -- a set has 1,024 words at the most
-  pub few : length ws ≤ 1024
-  few = omega (arith, sound.own, words_hold set.length, (valid set ws sound.asked).small)
+-- a set has 1,024 words at the most
+pub few : {n : ℕ} {ws : List ℕ} → Sound n ws → length ws ≤ 1024
+few {n} {ws} sound = omega (arith, sound.own, words_hold n, (valid (record { length = n }) ws sound.asked).small)
 
+module _ (set : FixedBitSet) (ws : List ℕ) (sound : Sound set.length ws) where
   pub rest_ones : (first : ℕ) → first ≤ length ws
       → count (length (take (length ws - first) (drop first ws)) * 64) (bit_of (take (length ws - first) (drop first ws))) ≡ ones_from (first * 64) (read ws set)
   unfolding read

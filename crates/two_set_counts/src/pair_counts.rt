@@ -13,7 +13,7 @@ use sets::{Checked, FixedBitSet, Refusal};
 fn joint_count(a: Checked, b: Checked, operation: Operation) -> usize
     ensures { result ≡ joint_ones operation (members a.entry) (members b.entry) }
 {
-    ones_common(a.words, b.words, operation) + ones_beyond(a, b, operation)
+    ones_common(a, b, operation) + ones_beyond(a, b, operation)
 }
 
 // How many positions the walk `union` gives. Asks 1 to 3 of both sets.

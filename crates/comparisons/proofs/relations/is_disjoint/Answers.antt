@@ -3,7 +3,6 @@ use mathlib.Core.Bool.{Bool}
 use Rattle.sets.proofs.OutcomeLaws.{given_yes}
 use Rattle.sets.proofs.RefusalLaws.{answer_refused}
 use Rattle.comparisons.specs.Relations.{disjoint}
-use Rattle.comparisons.proofs.RelationLaws.{disjoint_is}
 use Rattle.comparisons.proofs.relations.is_disjoint.Goals as goal
 
 pub returns-in_err-a : goal.returns-in_err-a
@@ -12,7 +11,4 @@ returns-in_err-a c = answer_refused _ _ _ _ _ c.from_residual.ensures.1 c.in_err
 pub returns : goal.returns
 returns c =
     let same = c.in_ok-a.ensures.same in
-    let a = c.in_ok-a.a in
-    let b = c.in_ok-a.b in
-    given_yes _ c.in_ok-a.ensures.number
-    (ap (λ (x : Bool). record { number = 0; yes = x }) (c.disjoint_by_words.ensures ∙ disjoint_is (record { length = a.length }) a.words.now (record { length = b.length }) b.words.now a.sound b.sound ∙ ap₂ disjoint same.0 same.1))
+    given_yes _ c.in_ok-a.ensures.number (ap (λ (x : Bool). record { number = 0; yes = x }) (c.disjoint_by_words.ensures ∙ ap₂ disjoint same.0 same.1))

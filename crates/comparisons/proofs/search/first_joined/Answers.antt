@@ -18,13 +18,13 @@ pub returns-then-word-ne0 : goal.returns-then-word-ne0
 returns-then-word-ne0 g c = λ op makes. record {
   inside = omega arith;
   before = c.loop-k.invariant op makes;
-  stop = λ l z. c.if-word-ne0.true (makes _ _ _ c.word.ensures ∙ z);
+  stop = λ l z. c.if-word-ne0.true (makes _ _ _ (omega arith) (omega arith) c.word.ensures ∙ z);
 }
 
 pub loop-k-preserved : goal.loop-k-preserved
 loop-k-preserved g c = λ op makes.
     let a = c.args in
-    more (λ i. op (get_or a.words.now i 0) (get_or a.other.now i 0)) c.loop-k.k (c.loop-k.invariant op makes) (sym (makes _ _ _ c.word.ensures) ∙ c.if-word-ne0.false)
+    more (λ i. op (get_or a.words.now i 0) (get_or a.other.now i 0)) c.loop-k.k (c.loop-k.invariant op makes) (sym (makes _ _ _ (omega arith) (omega arith) c.word.ensures) ∙ c.if-word-ne0.false)
 
 pub returns : goal.returns
 returns g c = λ op makes. record {

@@ -15,7 +15,7 @@ loop-k-preserved g c =
       omega arith,
       λ op made.
           stored_more _ _ (λ i. op (get_or a.words.now i 0) (get_or a.other.now i 0)) _ _ (inv.1 op made) _ (omega arith) (omega arith)
-          (made _ _ _ c.word.ensures
+          (made _ _ _ (omega arith) (omega arith) c.word.ensures
           ∙ ap (λ (w : ℕ). op w (get_or a.other.now c.loop-k.k 0)) (stored_rest _ _ (λ i. op (get_or a.words.now i 0) (get_or a.other.now i 0)) _ _ (inv.1 op made) _ (omega arith))),
     )
 

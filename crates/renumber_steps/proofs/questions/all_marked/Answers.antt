@@ -1,6 +1,6 @@
 use mathlib.Core.Path.{sym, ap, ◌∙◌}
 use mathlib.Core.Bool.{Bool, ◌&&◌}
-use Prim.Native.Nat.{ℕ, ◌*◌}
+use Prim.Native.Nat.{ℕ, ◌*◌, min}
 use borrow.Author.Tests.{eq-eqb, ne_eqb}
 use lib.Dec.{eqb}
 use Rattle.word_bits.specs.Counts.{count}
@@ -13,7 +13,7 @@ unfolding all_marked
 returns-then-marks-eq1024 c =
     let ms = c.args.marks.now in
     let n = c.args.count in
-    ap (λ (x : ℕ). eqb x n) (c.ones_of_words.ensures ∙ ap (λ (l : ℕ). count (l * 64) (bit_of ms)) c.if-marks-eq1024.true)
+    ap (λ (x : ℕ). eqb x n) (c.ones_of_words.ensures ∙ ap (λ (l : ℕ). count (min l 1024 * 64) (bit_of ms)) c.if-marks-eq1024.true)
     ∙ sym (ap (λ (b : Bool). b && eqb (count 65536 (bit_of ms)) n) (eq-eqb _ 1024 c.if-marks-eq1024.true))
 
 pub returns-else-marks-eq1024 : goal.returns-else-marks-eq1024

@@ -1,25 +1,18 @@
 use Rattle.std.proofs.Common.{rules}
-use Rattle.operations.specs.Operations.{made_word}
+use Rattle.operations.specs.Operations.{joined_word}
 use Rattle.operations.specs.declared.operation.Operation.TheVariants.{Union, Intersection, Difference, SymmetricDifference}
-use Rattle.two_set_counts.proofs.WordRows.{row_by}
+use Rattle.operations.proofs.WordJoins.{joins}
+use Rattle.two_set_counts.proofs.WordRows.{row_joined}
 use Rattle.two_set_counts.proofs.common.ones_common.Goals as goal
 
 pub returns-in-Union : goal.returns-in-Union
-returns-in-Union c =
-    row_by c.in-Union.is (record { fits = λ k. (c.type_inv.words k).fits }) (record { fits = λ k. (c.type_inv.other k).fits }) _
-    (c.ones_joined.ensures (made_word Union) (λ a b r p. search rules))
+returns-in-Union c = row_joined c.in-Union.is _ _ _ (c.ones_joined.ensures (joined_word Union) (joins Union (λ a b r p. search rules)))
 
 pub returns-in-Intersection : goal.returns-in-Intersection
-returns-in-Intersection c =
-    row_by c.in-Intersection.is (record { fits = λ k. (c.type_inv.words k).fits }) (record { fits = λ k. (c.type_inv.other k).fits }) _
-    (c.ones_joined-in-Intersection.ensures (made_word Intersection) (λ a b r p. search rules))
+returns-in-Intersection c = row_joined c.in-Intersection.is _ _ _ (c.ones_joined-in-Intersection.ensures (joined_word Intersection) (joins Intersection (λ a b r p. search rules)))
 
 pub returns-in-Difference : goal.returns-in-Difference
-returns-in-Difference c =
-    row_by c.in-Difference.is (record { fits = λ k. (c.type_inv.words k).fits }) (record { fits = λ k. (c.type_inv.other k).fits }) _
-    (c.ones_joined-in-Difference.ensures (made_word Difference) (λ a b r p. search rules))
+returns-in-Difference c = row_joined c.in-Difference.is _ _ _ (c.ones_joined-in-Difference.ensures (joined_word Difference) (joins Difference (λ a b r p. search rules)))
 
 pub returns-in-SymmetricDifference : goal.returns-in-SymmetricDifference
-returns-in-SymmetricDifference c =
-    row_by c.in-SymmetricDifference.is (record { fits = λ k. (c.type_inv.words k).fits }) (record { fits = λ k. (c.type_inv.other k).fits }) _
-    (c.ones_joined-in-SymmetricDifference.ensures (made_word SymmetricDifference) (λ a b r p. search rules))
+returns-in-SymmetricDifference c = row_joined c.in-SymmetricDifference.is _ _ _ (c.ones_joined-in-SymmetricDifference.ensures (joined_word SymmetricDifference) (joins SymmetricDifference (λ a b r p. search rules)))

@@ -4,6 +4,7 @@ use lib.ListN.{length, get_or}
 use Rattle.word_bits.specs.Counts.{count}
 use Rattle.word_bits.specs.Digits.{digit, row}
 use Rattle.word_bits.proofs.Ones.{count-le, row-none, row_more}
+use Rattle.two_set_counts.proofs.RestLaws.{few}
 use native.Mathlib.Omega.{arith}
 use Rattle.two_set_counts.proofs.common.ones_joined.Goals as goal
 
@@ -11,7 +12,7 @@ pub loop-k-init : goal.loop-k-init
 loop-k-init g c = (omega arith, λ op makes. row-none _)
 
 pub overflow_add-sum : goal.overflow_add-sum
-overflow_add-sum g c = omega (arith, c.loop-k.invariant.0, c.count_ones-sum.ensures, count-le 64 (digit c.word.result))
+overflow_add-sum g c = omega (arith, few c.args.a.sound, c.loop-k.invariant.0, c.count_ones-sum.ensures, count-le 64 (digit c.word.result))
 
 pub loop-k-preserved : goal.loop-k-preserved
 loop-k-preserved g c =
@@ -19,12 +20,12 @@ loop-k-preserved g c =
     let a = c.args in (
       omega (arith, inv.0, c.count_ones-sum.ensures, count-le 64 (digit c.word.result)),
       λ op makes.
-          ap₂ ◌+◌ (inv.1 op makes) (c.count_ones-sum.ensures ∙ ap (λ (w : ℕ). count 64 (digit w)) (makes _ _ _ c.word.ensures))
-          ∙ row_more (λ i. op (get_or a.words.now i 0) (get_or a.other.now i 0)) c.loop-k.k,
+          ap₂ ◌+◌ (inv.1 op makes) (c.count_ones-sum.ensures ∙ ap (λ (w : ℕ). count 64 (digit w)) (makes _ _ _ (omega arith) (omega arith) c.word.ensures))
+          ∙ row_more (λ i. op (get_or a.a.words.now i 0) (get_or a.b.words.now i 0)) c.loop-k.k,
     )
 
 pub returns : goal.returns
 returns g c = λ op makes.
     let a = c.args in
-    let e : c.loop-k.k ≡ min (length a.words.now) (length a.other.now) = omega arith in
-    c.loop-k.invariant.1 op makes ∙ ap (λ (n : ℕ). count (n * 64) (row (λ i. op (get_or a.words.now i 0) (get_or a.other.now i 0)))) e
+    let e : c.loop-k.k ≡ min (length a.a.words.now) (length a.b.words.now) = omega arith in
+    c.loop-k.invariant.1 op makes ∙ ap (λ (n : ℕ). count (n * 64) (row (λ i. op (get_or a.a.words.now i 0) (get_or a.b.words.now i 0)))) e

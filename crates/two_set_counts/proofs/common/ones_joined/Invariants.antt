@@ -10,4 +10,4 @@ use Rattle.two_set_counts.proofs.common.ones_joined.Given as goal
 abbrev pub invariant-loop-k : goal.invariant-loop-k
 invariant-loop-k g l =
     (l.sum ≤ l.k * 64)
-    × ((op : ℕ → ℕ → ℕ) → Makes (goal.F-post g l.word) op → l.sum ≡ count (l.k * 64) (row (λ i. op (get_or l.words i 0) (get_or l.other i 0))))
+    × ((op : ℕ → ℕ → ℕ) → Makes (goal.F-post g l.word) op → l.sum ≡ count (l.k * 64) (row (λ i. op (get_or l.a.words.now i 0) (get_or l.b.words.now i 0))))

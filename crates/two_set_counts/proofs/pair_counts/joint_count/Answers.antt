@@ -2,7 +2,6 @@ use mathlib.Core.Path.{◌≡◌, ap₂, ◌∙◌}
 use Prim.Native.Nat.{◌+◌}
 use Rattle.sets.specs.CheckedSets.{members}
 use Rattle.two_set_counts.specs.Helpers.{joint_ones}
-use Rattle.two_set_counts.proofs.RestLaws.{few}
 use Rattle.two_set_counts.proofs.JointLaws.{two_counts, joint-le}
 use native.Mathlib.Omega.{arith}
 use Rattle.two_set_counts.proofs.pair_counts.joint_count.Goals as goal
@@ -15,9 +14,6 @@ whole c =
     let b = c.args.b in
     ap₂ ◌+◌ c.ones_common.ensures c.ones_beyond.ensures
     ∙ two_counts c.args.operation (record { length = a.length }) a.words.now (record { length = b.length }) b.words.now a.sound b.sound
-
-pub ones_common-requires : goal.ones_common-requires
-ones_common-requires c = let a = c.args.a in few (record { length = a.length }) a.words.now a.sound
 
 pub overflow_add-result : goal.overflow_add-result
 overflow_add-result c =
