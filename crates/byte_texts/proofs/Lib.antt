@@ -3,3 +3,4 @@ pub mod WriteLaws
 pub mod DecimalLaws
 pub mod Examples
 pub mod GrowthLaws
+pub mod NameLaws

@@ -1,5 +1,5 @@
-ghost use Rattle.std.specs.Prelude.{◌≡◌, map};
-ghost use Rattle.byte_texts.specs.Texts.{written, visible, decimal, shown_text, shown_name};
+ghost use Rattle.std.specs.Prelude.{◌≡◌, map, take};
+ghost use Rattle.byte_texts.specs.Texts.{visible, decimal, shown_text, shown_name};
 ghost use Rattle.byte_texts.specs.Growth.{Appended};
 
 // A text in a lent buffer, and where it ends. What the buffer has no room for is left out.
@@ -84,40 +84,12 @@ impl<'a> Text<'a> {
         self.append(b"...");
         self.append_visible(&name[name.len() - 40..]);
     }
-}
 
-// The bytes as they are, from `at` on. Gives where they end.
-pub fn append(out: &mut [u8], at: usize, text: &[u8]) -> usize
-    ensures { record { end = result; out = out.new } ≡ written out.old at text.now }
-{
-    let mut written = Text { out, end: at };
-    written.append(text);
-    written.end
-}
-
-// A number in decimal.
-pub fn append_decimal(out: &mut [u8], at: usize, n: u64) -> usize
-    ensures { record { end = result; out = out.new } ≡ written out.old at (decimal n) }
-{
-    let mut written = Text { out, end: at };
-    written.append_decimal(n);
-    written.end
-}
-
-// A text as it is shown.
-pub fn append_text(out: &mut [u8], at: usize, text: &[u8]) -> usize
-    ensures { record { end = result; out = out.new } ≡ written out.old at (shown_text text.now) }
-{
-    let mut written = Text { out, end: at };
-    written.append_text(text);
-    written.end
-}
-
-// A name as it is shown.
-pub fn append_name(out: &mut [u8], at: usize, name: &[u8]) -> usize
-    ensures { record { end = result; out = out.new } ≡ written out.old at (shown_name name.now) }
-{
-    let mut written = Text { out, end: at };
-    written.append_name(name);
-    written.end
+    // What is written.
+    pub fn written(self) -> &'a [u8]
+        ensures { result.now ≡ take self.entry.end self.entry.out.now }
+    {
+        let Text { out, end } = self;
+        &out[..end.min(out.len())]
+    }
 }

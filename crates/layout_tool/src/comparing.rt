@@ -6,7 +6,7 @@ use listing_pieces::same_offsets;
 use listings::Job;
 use std::io::{Input, Write};
 use std::rt::Files;
-use tool_files::{Fragment, Trouble, part, write_whole};
+use tool_files::{Fragment, Trouble, write_whole};
 use verdict_lines::Tables;
 use whole_walks::Walk;
 
@@ -74,8 +74,7 @@ impl<R: Files + Input, W: Write, E: Write> Tool<'_, R, W, E> {
         let mut line = [0u8; 256];
         let mut text = Text::new(&mut line);
         tables.append(&mut text);
-        let Text { out, end } = text;
-        write_whole(self.out, part(out, 0, end), self.err)
+        write_whole(self.out, text.written(), self.err)
     }
 
     // Whether each table names the offsets of the firmware.

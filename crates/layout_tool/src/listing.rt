@@ -1,11 +1,11 @@
 use crate::tool::{Status, Tool};
-use byte_texts::append_name;
+use byte_texts::ShownName;
 use listing_pieces::{first_page, next_piece};
 use listings::{Job, Stage};
 use std::io::{Input, Write};
 use std::rt::Files;
 use tool_files::Fragment::{Name, Text};
-use tool_files::{Step, Trouble, part, write_pieces};
+use tool_files::{Step, Trouble, write_pieces};
 use whole_walks::Walk;
 
 // The offsets of a file, under its name.
@@ -26,12 +26,8 @@ impl<R: Files + Input, W: Write, E: Write> Tool<'_, R, W, E> {
         if self.options.quiet {
             return Ok(());
         }
-        let mut space = [0u8; 64];
-        let end = append_name(&mut space, 0, file.name);
-        let name = part(&space, 0, end);
-        let mut other_space = [0u8; 64];
-        let other_end = append_name(&mut other_space, 0, other.name);
-        let other_name = part(&other_space, 0, other_end);
+        let name = ShownName::new(file.name);
+        let other_name = ShownName::new(other.name);
         write_pieces(
             first_page(job),
             |page, buffer| {
@@ -39,8 +35,8 @@ impl<R: Files + Input, W: Write, E: Write> Tool<'_, R, W, E> {
                     job,
                     file.words,
                     other.words,
-                    name,
-                    other_name,
+                    name.bytes(),
+                    other_name.bytes(),
                     page,
                     buffer,
                 )?;

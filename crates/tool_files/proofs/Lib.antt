@@ -1,2 +1,1 @@
 pub mod LoadLaws
-pub mod NameLaws

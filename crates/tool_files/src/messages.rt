@@ -1,4 +1,3 @@
-use crate::parts::part;
 use byte_texts::Text;
 use std::io;
 use std::io::{ErrorKind, Write};
@@ -59,8 +58,7 @@ pub fn tell<E: Write>(err: &mut E, start: &[u8], message: &[Fragment]) -> Result
         }
     }
     text.append(b"\n");
-    let Text { out, end } = text;
-    err.write_all(part(out, 0, end)).map_err(|_| Trouble)
+    err.write_all(text.written()).map_err(|_| Trouble)
 }
 
 // Says why something cannot be done.

@@ -7,10 +7,9 @@ ghost use Rattle.tool_files.specs.Loading.{ReadWhole, Usable};
 use crate::messages::Fragment::{Name, Number, Text};
 use crate::messages::{Trouble, fail, tell};
 use crate::opening::open_file;
-use crate::parts::part;
 use crate::reads::{Reads, Unread};
 use crate::reports::{tell_bads, tell_report, tell_unread};
-use byte_texts::append_name;
+use byte_texts::ShownName;
 use offset_files::Reading;
 use offset_reads::{finish, start, take};
 use std::io::{Input, Read, Write};
@@ -110,9 +109,8 @@ pub fn load<R: Files + Input, E: Write>(
 ) -> Result<(), Trouble>
     ensures { OnOk result (Usable (shown_name name.now) words.new) }
 {
-    let mut space = [0u8; 64];
-    let end = append_name(&mut space, 0, name);
-    let shown = part(&space, 0, end);
+    let shown_name = ShownName::new(name);
+    let shown = shown_name.bytes();
     let mut file = open_file(rt, name, err)?;
     load_open(&mut file, name, shown, allow_empty, err, words, table)
 }

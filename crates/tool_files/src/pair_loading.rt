@@ -7,10 +7,9 @@ ghost use Rattle.tool_files.specs.Loading.{ReadWhole, UsablePairs};
 use crate::messages::Fragment::{Name, Text};
 use crate::messages::{Trouble, fail};
 use crate::opening::open_file;
-use crate::parts::part;
 use crate::reads::{Reads, Unread};
 use crate::reports::{tell_bads, tell_report, tell_unread};
-use byte_texts::append_name;
+use byte_texts::ShownName;
 use pair_files::{finish, start, take};
 use std::io::{Input, Read, Write};
 use std::rt::Files;
@@ -109,9 +108,8 @@ pub fn load_pairs<R: Files + Input, E: Write>(
 ) -> Result<(), Trouble>
     ensures { OnOk result (UsablePairs (shown_name name.now) size to.new from.new) }
 {
-    let mut space = [0u8; 64];
-    let end = append_name(&mut space, 0, name);
-    let shown = part(&space, 0, end);
+    let shown_name = ShownName::new(name);
+    let shown = shown_name.bytes();
     let mut file = open_file(rt, name, err)?;
     load_open_pairs(&mut file, name, shown, size, allow_empty, err, to, from)
 }

@@ -1,10 +1,10 @@
 ghost use Rattle.std.specs.Prelude.{◌≡◌, OnOk};
 ghost use Rattle.pair_listings.specs.Tables.{entry_of, offsets_of, unpaired_count};
 
-use byte_texts::{Text, append_name};
+use byte_texts::{ShownName, Text};
 use pair_listings::{append_unpaired, count_unpaired, first_unpaired};
 use std::io::Write;
-use tool_files::{Fragment, Trouble, fail, part};
+use tool_files::{Fragment, Trouble, fail};
 
 // Messages of the first 20 members that no pair names, in a lent buffer. `table` has the lines of the old file.
 fn report_members<'a>(
@@ -25,8 +25,7 @@ fn report_members<'a>(
         append_unpaired(&mut report, old, line, offset, pairs);
         from = offset.saturating_add(1);
     }
-    let Text { out, end } = report;
-    part(out, 0, end)
+    report.written()
 }
 
 // Whether every offset of the old file has a pair. Where not, it was said of which: of the first 20, and how many more.
@@ -44,19 +43,10 @@ pub fn all_paired<E: Write>(
     if count == 0 {
         return Ok(());
     }
-    let mut old = [0u8; 64];
-    let old_end = append_name(&mut old, 0, old_name);
-    let mut pairs = [0u8; 64];
-    let pairs_end = append_name(&mut pairs, 0, pairs_name);
+    let old = ShownName::new(old_name);
+    let pairs = ShownName::new(pairs_name);
     let mut space = [0u8; 8192];
-    let report = report_members(
-        &mut space,
-        words,
-        table,
-        to,
-        part(&old, 0, old_end),
-        part(&pairs, 0, pairs_end),
-    );
+    let report = report_members(&mut space, words, table, to, old.bytes(), pairs.bytes());
     err.write_all(report).map_err(|_| Trouble)?;
     if count > 20 {
         return Err(fail(

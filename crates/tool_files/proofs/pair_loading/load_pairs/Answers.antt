@@ -1,9 +1,8 @@
 -- The name as it is shown is what the buffer has of it.
-use Rattle.std.proofs.Common.{arith}
+use mathlib.Core.Path.{◌∙◌}
 use Rattle.std.proofs.lemmas.Result.{on_ok_weaker}
 use Rattle.tool_files.proofs.LoadLaws.{renamed_pairs}
-use Rattle.tool_files.proofs.NameLaws.{shown_is}
 use Rattle.tool_files.proofs.pair_loading.load_pairs.Goals as goal
 
 pub returns : goal.returns
-returns g c = on_ok_weaker c.load_open_pairs.result (renamed_pairs (shown_is _ _ (omega arith) c.append_name-end.ensures c.part-shown.ensures)) c.load_open_pairs.ensures
+returns g c = on_ok_weaker c.load_open_pairs.result (renamed_pairs (c.bytes-shown.ensures ∙ c.new-shown_name.ensures)) c.load_open_pairs.ensures
