@@ -1,30 +1,40 @@
 -- Calls as numbers, five by five. Assumes nothing.
 use mathlib.Core.Path.{◌≡◌, refl, sym, ap, ap₂, ◌∙◌}
 use mathlib.Core.Bool.{true, false, not}
-use mathlib.Core.List.{List, [], ◌∷◌, ◌++◌, append_assoc}
+use mathlib.Core.List.{List, [], ◌∷◌, ◌++◌, append_assoc, append-nil}
 use mathlib.Core.Logic.{◌⊎◌, inl, inr}
 use mathlib.Core.Option.{Option, none, some}
 use Prim.Native.Nat.{ℕ, ◌+◌, ◌-◌, ◌≤◌, ◌<◌}
-use native.Mathlib.Nat.{add-zero}
 use native.Mathlib.Omega.{arith}
 use lib.Dec.{eqb}
 use borrow.Author.Tests.{le-leb, lt-leb}
 use lib.ListN.{length, get_or, take, drop, length-drop, length-append}
-use lib.Seq.{get_or-drop, drop-drop, take-append_seam, drop-append_seam}
+use lib.Seq.{drop-drop, take-append_seam, drop-append_seam}
 use Rattle.word_bits.proofs.Order.{lt-or-le}
 use Rattle.calls.specs.Calls.{Call, Insert, Remove, Put, Toggle, Set, CopyBit, InsertRange, RemoveRange, ToggleRange, SetRange, Clear, Grow, GrowAndInsert, UnionWith, IntersectWith, DifferenceWith, SymmetricDifferenceWith, InsertAll}
 use Rattle.calls.specs.History.{Called, OnA, OnB}
 use Rattle.calls.specs.Encoding.{listed, decode, decode_one, decode_all, called, encode, list_of, lists_of, encode_all}
 
-decode_five : (positions ns : List ℕ) → 5 ≤ length ns
-    → decode_all positions ns ≡ decode_one positions (get_or ns 0 0) (get_or ns 1 0) (get_or ns 2 0) (get_or ns 3 0) (get_or ns 4 0) ++ decode_all positions (drop 5 ns)
+-- five numbers are one call
+pub decode_five : (positions ns : List ℕ) → length ns ≡ 5
+    → decode_all positions ns ≡ decode_one positions (get_or ns 0 0) (get_or ns 1 0) (get_or ns 2 0) (get_or ns 3 0) (get_or ns 4 0)
 unfolding decode_all
 decode_five positions [] h = absurd (omega arith)
 decode_five positions (p ∷ []) h = absurd (omega arith)
 decode_five positions (p ∷ q ∷ []) h = absurd (omega arith)
 decode_five positions (p ∷ q ∷ r ∷ []) h = absurd (omega arith)
 decode_five positions (p ∷ q ∷ r ∷ s ∷ []) h = absurd (omega arith)
-decode_five positions (p ∷ q ∷ r ∷ s ∷ t ∷ ns) h = refl
+decode_five positions (p ∷ q ∷ r ∷ s ∷ t ∷ []) h = append-nil (decode_one positions p q r s t)
+decode_five positions (p ∷ q ∷ r ∷ s ∷ t ∷ u ∷ ns) h = absurd (omega arith)
+
+decode_more : (positions ns : List ℕ) → 5 ≤ length ns → decode_all positions ns ≡ decode_all positions (take 5 ns) ++ decode_all positions (drop 5 ns)
+unfolding decode_all
+decode_more positions [] h = absurd (omega arith)
+decode_more positions (p ∷ []) h = absurd (omega arith)
+decode_more positions (p ∷ q ∷ []) h = absurd (omega arith)
+decode_more positions (p ∷ q ∷ r ∷ []) h = absurd (omega arith)
+decode_more positions (p ∷ q ∷ r ∷ s ∷ []) h = absurd (omega arith)
+decode_more positions (p ∷ q ∷ r ∷ s ∷ t ∷ ns) h = ap (λ (cs : List Called). cs ++ decode_all positions ns) (sym (append-nil (decode_one positions p q r s t)))
 
 decode_short : (positions ns : List ℕ) → length ns < 5 → decode_all positions ns ≡ []
 unfolding decode_all
@@ -37,10 +47,8 @@ decode_short positions (p ∷ q ∷ r ∷ s ∷ t ∷ ns) h = absurd (omega arit
 
 module _ (positions ns : List ℕ) (at : ℕ) where
   pub decode_at : 5 ≤ length ns - at
-      → decode_all positions (drop at ns) ≡ decode_one positions (get_or ns at 0) (get_or ns (at + 1) 0) (get_or ns (at + 2) 0) (get_or ns (at + 3) 0) (get_or ns (at + 4) 0) ++ decode_all positions (drop (at + 5) ns)
-  decode_at h =
-      decode_five positions (drop at ns) (rw (length-drop at ns) h)
-      ∙ rw (get_or-drop at ns 0 0, get_or-drop at ns 1 0, get_or-drop at ns 2 0, get_or-drop at ns 3 0, get_or-drop at ns 4 0, add-zero at, drop-drop 5 at ns) refl
+      → decode_all positions (drop at ns) ≡ decode_all positions (take 5 (drop at ns)) ++ decode_all positions (drop (at + 5) ns)
+  decode_at h = decode_more positions (drop at ns) (rw (length-drop at ns) h) ∙ rw (drop-drop 5 at ns) refl
 
   pub decode_end : length ns - at < 5 → decode_all positions (drop at ns) ≡ []
   decode_end h = decode_short positions (drop at ns) (rw (length-drop at ns) h)

@@ -22,10 +22,11 @@ use Rattle.sets.proofs.WriteLaws.{read-write, write-write, length-write}
 use Rattle.sets.specs.Questions.{both_questions}
 use Rattle.calls.specs.Calls.{Call}
 use Rattle.calls.specs.History.{State, Called, OnA, OnB, history}
-use Rattle.calls.specs.Encoding.{called, decode, decode_one}
+use Rattle.calls.specs.Encoding.{called, decode, decode_all}
 use Rattle.calls.specs.Rules.{ReplayOutcome, decoded_rule, stored}
 use Rattle.calls.proofs.SoundLaws.{Sound, Kept, same_kept, sound_read, leaves_kept}
 use Rattle.calls.proofs.CallLaws.{call_holds}
+use Rattle.calls.proofs.EncodingLaws.{decode_five}
 
 -- ---- states
 
@@ -93,39 +94,45 @@ module _ (a : FixedBitSet) (ws : List ℕ) (b : FixedBitSet) (vs : List ℕ) (va
         rw (e, h.set, h.words, write_read a ws va fa, ← set_read a ws) refl
 
     -- five numbers: what they call on A, on B, or on neither
-    module _ (positions : List ℕ) (on code x y z : ℕ) where
-      abbrev five : List Called
-      five = decode_one positions on code x y z
+    module _ (positions ns : List ℕ) (long : length ns ≡ 5) where
+      abbrev on : ℕ
+      on = get_or ns 0 0
+
+      abbrev call_of : Option Call
+      call_of = decode positions (get_or ns 1 0) (get_or ns 2 0) (get_or ns 3 0) (not (eqb (get_or ns 4 0) 0))
 
       abbrev ended : ReplayOutcome
-      ended = stored ws vs (history (length ws) (length vs) five held)
+      ended = stored ws vs (history (length ws) (length vs) (decode_all positions ns) held)
 
-      pub made_on_a : on ≡ 0 → (call : Option Call) → call ≡ decode positions code x y (not (eqb z 0)) → (r : Result FixedBitSet Refusal) (set : FixedBitSet) (now : List ℕ)
+      abbrev one_call : ℕ → Option Call → List Called
+      one_call k c = cond (eqb k 0) (called OnA c) (cond (eqb k 1) (called OnB c) [])
+
+      ended_by : {cs : List Called} → cs ≡ one_call on call_of → {x : ReplayOutcome} → x ≡ stored ws vs (history (length ws) (length vs) cs held) → x ≡ ended
+      ended_by e o = o ∙ ap (λ (cs : List Called). stored ws vs (history (length ws) (length vs) cs held)) (e ∙ sym (decode_five positions ns long))
+
+      pub made_on_a : on ≡ 0 → (call : Option Call) → call ≡ call_of → (r : Result FixedBitSet Refusal) (set : FixedBitSet) (now : List ℕ)
           → set ≡ result_unwrap_or r a → outcome (edited_of a r) now ≡ decoded_rule a ws b vs call
           → ◌≡◌ {A = ReplayOutcome} (record { number = 0; a = set; words = now; b = b; other = vs }) ended
       made_on_a e call d r set now u o =
-          ap (λ (s : FixedBitSet). record { number = 0; a = s; words = now; b = b; other = vs }) (u ∙ kept_set a r) ∙ on_a call o
-          ∙ ap (λ (cs : List Called). stored ws vs (history (length ws) (length vs) cs held))
-          (ap (called OnA) d ∙ ap (λ (k : ℕ). decode_one positions k code x y z) (sym e))
+          ended_by (ap (called OnA) d ∙ ap (λ (k : ℕ). one_call k call_of) (sym e))
+          (ap (λ (s : FixedBitSet). record { number = 0; a = s; words = now; b = b; other = vs }) (u ∙ kept_set a r) ∙ on_a call o)
 
-      pub made_on_b : on ≡ 1 → (call : Option Call) → call ≡ decode positions code x y (not (eqb z 0)) → (r : Result FixedBitSet Refusal) (set : FixedBitSet) (now : List ℕ)
+      pub made_on_b : on ≡ 1 → (call : Option Call) → call ≡ call_of → (r : Result FixedBitSet Refusal) (set : FixedBitSet) (now : List ℕ)
           → set ≡ result_unwrap_or r b → outcome (edited_of b r) now ≡ decoded_rule b vs a ws call
           → ◌≡◌ {A = ReplayOutcome} (record { number = 0; a = a; words = ws; b = set; other = now }) ended
       made_on_b e call d r set now u o =
-          ap (λ (s : FixedBitSet). record { number = 0; a = a; words = ws; b = s; other = now }) (u ∙ kept_set b r) ∙ on_b call o
-          ∙ ap (λ (cs : List Called). stored ws vs (history (length ws) (length vs) cs held))
-          (ap (called OnB) d ∙ ap (λ (k : ℕ). decode_one positions k code x y z) (sym e))
+          ended_by (ap (called OnB) d ∙ ap (λ (k : ℕ). one_call k call_of) (sym e))
+          (ap (λ (s : FixedBitSet). record { number = 0; a = a; words = ws; b = s; other = now }) (u ∙ kept_set b r) ∙ on_b call o)
 
-      none_made : [] ≡ five → ◌≡◌ {A = ReplayOutcome} (record { number = 0; a = a; words = ws; b = b; other = vs }) ended
-      none_made e = no_call ∙ ap (λ (cs : List Called). stored ws vs (history (length ws) (length vs) cs held)) e
+      none_made : [] ≡ one_call on call_of → ◌≡◌ {A = ReplayOutcome} (record { number = 0; a = a; words = ws; b = b; other = vs }) ended
+      none_made e = ended_by e no_call
 
       pub made_on_neither : (on ≡ 0 → ⊥) → (on ≡ 1 → ⊥) → ◌≡◌ {A = ReplayOutcome} (record { number = 0; a = a; words = ws; b = b; other = vs }) ended
       made_on_neither h k = none_made (rw (ne_eqb on 0 h, ne_eqb on 1 k) refl)
 
-      pub made_none : none ≡ decode positions code x y (not (eqb z 0))
-          → ◌≡◌ {A = ReplayOutcome} (record { number = 0; a = a; words = ws; b = b; other = vs }) ended
+      pub made_none : none ≡ call_of → ◌≡◌ {A = ReplayOutcome} (record { number = 0; a = a; words = ws; b = b; other = vs }) ended
       made_none d =
-          none_made (either (eqb on 0) (eqb on 1) ∙ ap (λ (c : Option Call). cond (eqb on 0) (called OnA c) (cond (eqb on 1) (called OnB c) [])) d)
+          none_made (either (eqb on 0) (eqb on 1) ∙ ap (one_call on) d)
         where
           either : (s t : Bool) → ◌≡◌ {A = List Called} [] (cond s [] (cond t [] []))
           either true t = refl

@@ -1,10 +1,12 @@
 -- The loop over a list of calls: what the calls that remain do to what is held equals what all of them do to the start. Assumes nothing.
-use mathlib.Core.Path.{◌≡◌, sym, ap, ◌∙◌}
-use mathlib.Core.List.{List}
-use Prim.Native.Nat.{ℕ, ◌+◌, ◌-◌, ◌≤◌, ◌<◌, ◌^◌}
+use mathlib.Core.Path.{◌≡◌, refl, sym, ap, ◌∙◌}
+use mathlib.Core.List.{List, []}
+use Prim.Native.Nat.{ℕ, zero, suc, ◌+◌, ◌-◌, ◌*◌, ◌≤◌, ◌<◌, ◌^◌}
 use native.Mathlib.Omega.{arith}
-use lib.ListN.{length, get_or, drop}
+use lib.ListN.{length, get_or, take, drop}
+use lib.Seq.{drop-drop}
 use Rattle.std.specs.Result.{IsErrAnd}
+use Rattle.std.specs.Simd.{first_chunks}
 use Rattle.std.proofs.Common.{Result}
 use Rattle.std.proofs.lemmas.Result.{err_from_is_err_and}
 use Rattle.sets.specs.Members.{read}
@@ -18,7 +20,7 @@ use Rattle.sets.proofs.WriteLaws.{write_fits}
 use Rattle.sets.specs.Questions.{both_questions}
 use Rattle.sets.proofs.QuestionLaws.{both_valid}
 use Rattle.calls.specs.History.{Called, history}
-use Rattle.calls.specs.Encoding.{decode_one, decode_all}
+use Rattle.calls.specs.Encoding.{decode_all}
 use Rattle.calls.specs.Rules.{ReplayOutcome, replay_outcome, replayed_of, stored}
 use Rattle.calls.proofs.EncodingLaws.{decode_at, decode_end}
 use Rattle.calls.proofs.HistoryLaws.{no_call, left_sound, left_sizes, left_then}
@@ -46,7 +48,7 @@ pub record Replaying (calls positions : List ℕ) (result : ReplayOutcome) (a : 
 module _ (calls positions : List ℕ) (result : ReplayOutcome) (a : FixedBitSet) (ws : List ℕ) (b : FixedBitSet) (vs : List ℕ) (m n at : ℕ)
     (i : Replaying calls positions result a ws b vs m n at) where
   pub again : 5 ≤ length calls - at → {x : ReplayOutcome}
-      → x ≡ ran (decode_one positions (get_or calls at 0) (get_or calls (at + 1) 0) (get_or calls (at + 2) 0) (get_or calls (at + 3) 0) (get_or calls (at + 4) 0)) a ws b vs
+      → x ≡ ran (decode_all positions (take 5 (drop at calls))) a ws b vs
       → Replaying calls positions result x.a x.words x.b x.other m n (at + 5)
   again h {x} e =
       let v = both_valid a ws b vs i.sound in
@@ -62,3 +64,14 @@ module _ (calls positions : List ℕ) (result : ReplayOutcome) (a : FixedBitSet)
   over h =
       let v = both_valid a ws b vs i.sound in
       no_call a ws b vs v.one v.two i.fits.0 i.fits.1 ∙ ap (λ (cs : List Called). ran cs a ws b vs) (sym (decode_end positions calls at h)) ∙ i.same
+
+-- a list cut into fives
+five_of : (n k : ℕ) (xs : List ℕ) → k < length (first_chunks 5 n xs) → get_or (first_chunks 5 n xs) k [] ≡ take 5 (drop (5 * k) xs)
+five_of zero k xs h = absurd (omega arith)
+five_of (suc n) zero xs h = refl
+five_of (suc n) (suc k) xs h =
+    let e : 5 + 5 * k ≡ 5 * suc k = omega arith in
+    five_of n k (drop 5 xs) (omega arith) ∙ ap (take 5) (drop-drop (5 * k) 5 xs ∙ ap (λ (m : ℕ). drop m xs) e)
+
+pub five_at : (n k : ℕ) (xs : List ℕ) {fives : List (List ℕ)} → fives ≡ first_chunks 5 n xs → k < length fives → get_or fives k [] ≡ take 5 (drop (5 * k) xs)
+five_at n k xs e h = rw e (five_of n k xs (rw e at h))

@@ -2,7 +2,7 @@ ghost use Rattle.std.specs.Prelude.{◌≡◌, length, Ok};
 ghost use Rattle.sets.specs.Members.{read};
 ghost use Rattle.sets.specs.Questions.{both_questions};
 ghost use Rattle.calls.specs.History.{history};
-ghost use Rattle.calls.specs.Encoding.{decode_all, decode_one};
+ghost use Rattle.calls.specs.Encoding.{decode_all};
 ghost use Rattle.calls.specs.Rules.{replay_outcome, replay_rule, replayed_of, stored};
 
 use crate::call::Call;
@@ -15,17 +15,14 @@ fn replay_one(
     words: &mut [u64],
     b: FixedBitSet,
     other: &mut [u64],
+    numbers: [u64; 5],
     positions: &[u64],
-    on: u64,
-    code: u64,
-    x: usize,
-    y: usize,
-    z: u64,
 ) -> (FixedBitSet, FixedBitSet)
     requires { both_questions a words.old b other.old ≡ 0 }
-    ensures { replay_outcome (replayed_of a b (Ok result)) words.new other.new ≡ stored words.old other.old (history (length words.old) (length other.old) (decode_one positions.now on code x y z) (record { a = read words.old a; b = read other.old b })) }
+    ensures { replay_outcome (replayed_of a b (Ok result)) words.new other.new ≡ stored words.old other.old (history (length words.old) (length other.old) (decode_all positions.now numbers) (record { a = read words.old a; b = read other.old b })) }
 {
-    let Some(call) = Call::decode(positions, code, x, y, z != 0) else {
+    let [on, code, x, y, z] = numbers;
+    let Some(call) = Call::decode(positions, code, x as usize, y as usize, z != 0) else {
         return (a, b);
     };
     match on {
@@ -49,20 +46,9 @@ fn replay_all(
 {
     let mut first = a;
     let mut second = b;
-    for k in 0..calls.len() / 5 {
-        let at = 5 * k;
-        (first, second) = replay_one(
-            first,
-            words,
-            second,
-            other,
-            positions,
-            calls[at],
-            calls[at + 1],
-            calls[at + 2] as usize,
-            calls[at + 3] as usize,
-            calls[at + 4],
-        );
+    let (fives, _) = calls.as_chunks::<5>();
+    for numbers in fives {
+        (first, second) = replay_one(first, words, second, other, *numbers, positions);
     }
     (first, second)
 }
