@@ -12,21 +12,18 @@ use lib.ListN.{length, length-set}
 use Rattle.word_bits.specs.Counts.{count}
 use Rattle.word_bits.proofs.Ones.{count_ext}
 use Rattle.word_bits.proofs.Order.{lt-or-le}
-use Rattle.blocks.proofs.BlockLaws.{length-swept}
+use Rattle.std.proofs.lemmas.List.{length-replicate}
 use Rattle.sets.specs.Members.{Members, words_of, bit_of, empty, set_of}
 use Rattle.sets.specs.Questions.{positions_question}
 use Rattle.sets.proofs.QuestionLaws.{first-yes, position_yes}
 use Rattle.sets.proofs.WriteLaws.{bit_write}
 use Rattle.edits.specs.Edits.{is_in}
 use Rattle.renumber_steps.specs.Pairs.{olds, repeats, sided}
-use Rattle.renumber_steps.specs.Passes.{Taken, taken, passed, marked, marking, aboves, cleared, all_marked, shared}
+use Rattle.renumber_steps.specs.Passes.{Taken, marked, marking, marking_all, aboves, cleared, all_marked}
 use Rattle.renumber_steps.specs.declared.pair.Pair.{Pair}
-use Rattle.renumber_steps.specs.declared.steps.Task.TheVariants.{Mark}
 use Rattle.renumber_steps.proofs.CountLaws.{count_list}
 use Rattle.renumber_steps.proofs.RepeatLaws.{held, held_len, held_has, hits, marks, marks_len, marks_has}
 use Rattle.renumber_steps.proofs.AskLaws.{run}
-
--- ---- the code
 
 -- ---- marks that none was there for
 
@@ -105,60 +102,50 @@ no_repeats (x ∷ xs) e = absurd (no e)
 
 -- ---- the exit
 
-passed_length : (ws : List ℕ) (ps : List Pair) (ms : List ℕ) → length (passed Mark ws ps ms).words ≡ length ms
-unfolding passed taken marking marked
-passed_length ws [] ms = refl
-passed_length ws (p ∷ ps) ms = go (bit_of ms p.old) (passed_length ws ps (marked ms p.old))
+marking_length : (ms xs : List ℕ) → length (marking_all ms xs).words ≡ length ms
+unfolding marking_all marking marked
+marking_length ms [] = refl
+marking_length ms (x ∷ xs) = go (bit_of ms x) (marking_length (marked ms x) xs)
   where
-    go : (b : Bool) → length (passed Mark ws ps (marked ms p.old)).words ≡ length (marked ms p.old)
-        → length (cond b (record { found = bit_of ms p.old; words = marked ms p.old }) (passed Mark ws ps (marked ms p.old))).words ≡ length ms
-    go true e = length-set ms (p.old / 64) _
-    go false e = e ∙ length-set ms (p.old / 64) _
+    go : (b : Bool) → length (marking_all (marked ms x) xs).words ≡ length (marked ms x)
+        → length (cond b (record { found = bit_of ms x; words = marked ms x }) (marking_all (marked ms x) xs)).words ≡ length ms
+    go true e = length-set ms (x / 64) _
+    go false e = e ∙ length-set ms (x / 64) _
 
-sided-length : (back : Bool) (pairs : List Pair) → length (olds (sided back pairs)) ≡ length pairs
+pub sided-length : (back : Bool) (pairs : List Pair) → length (olds (sided back pairs)) ≡ length pairs
 unfolding olds sided
 sided-length back [] = refl
 sided-length back (p ∷ ps) = ap suc (sided-length back ps)
 
-module _ (ws ms : List ℕ) (ps : List Pair) (n : ℕ) (none : (passed Mark ws ps (cleared ms)).found ≡ false)
-    (full : all_marked (passed Mark ws ps (cleared ms)).words n ≡ true) (long : length (olds ps) ≡ n) where
-  split : (length (passed Mark ws ps (cleared ms)).words ≡ 1024) × (count 65536 (bit_of (passed Mark ws ps (cleared ms)).words) ≡ n)
+module _ (ms xs : List ℕ) (none : (marking_all (cleared ms) xs).found ≡ false) (full : all_marked (marking_all (cleared ms) xs).words (length xs) ≡ true) where
+  split : (length (marking_all (cleared ms) xs).words ≡ 1024) × (count 65536 (bit_of (marking_all (cleared ms) xs).words) ≡ length xs)
   unfolding all_marked
   split =
-      let both = and_yes (eqb (length (passed Mark ws ps (cleared ms)).words) 1024) _ full in
-      (eqb-true _ 1024 both.0, eqb-true _ n both.1)
+      let both = and_yes (eqb (length (marking_all (cleared ms) xs).words) 1024) _ full in
+      (eqb-true _ 1024 both.0, eqb-true _ (length xs) both.1)
 
   size : length ms ≡ 1024
   unfolding cleared
-  size = sym (length-swept 0 (length ms) (λ k w. 0) ms) ∙ sym (passed_length ws ps (cleared ms)) ∙ split.0
+  size = sym (length-replicate (length ms) 0) ∙ sym (marking_length (cleared ms) xs) ∙ split.0
 
-  none_hit : hits (empty 65536) (olds ps) ≡ false
-  none_hit = sym (ap (λ (t : Taken). t.found) (run ws ms ps size)) ∙ none
+  none_hit : hits (empty 65536) xs ≡ false
+  none_hit = sym (ap (λ (t : Taken). t.found) (run ms xs size)) ∙ none
 
-  bits : (p : ℕ) → p < 65536 → bit_of (passed Mark ws ps (cleared ms)).words p ≡ is_in (belows (olds ps)) p
+  bits : (p : ℕ) → p < 65536 → bit_of (marking_all (cleared ms) xs).words p ≡ is_in (belows xs) p
   unfolding words_of
   bits p l =
-      ap (λ (t : Taken). bit_of t.words p) (run ws ms ps size)
-      ∙ bit_write ms (marks (empty 65536) (olds ps)) p (rw (marks_len (empty 65536) (olds ps)) (omega arith))
-      ∙ marks_has (empty 65536) (olds ps) p l none_hit ∙ or-false (is_in (olds ps) p) ∙ sym (belows_in (olds ps) p l)
+      ap (λ (t : Taken). bit_of t.words p) (run ms xs size)
+      ∙ bit_write ms (marks (empty 65536) xs) p (rw (marks_len (empty 65536) xs) (omega arith))
+      ∙ marks_has (empty 65536) xs p l none_hit ∙ or-false (is_in xs p) ∙ sym (belows_in xs p l)
     where
       or-false : (b : Bool) → (b || false) ≡ b
       or-false true = refl
       or-false false = refl
 
-  all_below : length (belows (olds ps)) ≡ length (olds ps)
+  all_below : length (belows xs) ≡ length xs
   all_below =
-      sym (count_list (set_of (empty 65536)) (belows (olds ps)) (belows_once (empty 65536) (olds ps) refl none_hit) (belows_fit (olds ps)))
-      ∙ sym (count_ext 65536 (bit_of (passed Mark ws ps (cleared ms)).words) (is_in (belows (olds ps))) bits) ∙ split.1 ∙ sym long
+      sym (count_list (set_of (empty 65536)) (belows xs) (belows_once (empty 65536) xs refl none_hit) (belows_fit xs))
+      ∙ sym (count_ext 65536 (bit_of (marking_all (cleared ms) xs).words) (is_in (belows xs)) bits) ∙ split.1
 
-  none_above : repeats (aboves (olds ps)) ≡ false
-  none_above = let both = parted (olds ps) in let all = all_below in no_repeats (aboves (olds ps)) (omega arith)
-
-  shared_no : ◌≡◌ {A = Taken} (record { found = false; words = (passed Mark ws ps (cleared ms)).words }) (shared ws ps ms)
-  unfolding shared
-  shared_no = ap (λ (b : Bool). record { found = b; words = (passed Mark ws ps (cleared ms)).words }) (sym (ap₂ ◌||◌ none none_above))
-
-pub none-shared : (ws ms : List ℕ) (back : Bool) (pairs : List Pair) → (passed Mark ws (sided back pairs) (cleared ms)).found ≡ false
-    → all_marked (passed Mark ws (sided back pairs) (cleared ms)).words (length pairs) ≡ true
-    → ◌≡◌ {A = Taken} (record { found = false; words = (passed Mark ws (sided back pairs) (cleared ms)).words }) (shared ws (sided back pairs) ms)
-none-shared ws ms back pairs none full = shared_no ws ms (sided back pairs) (length pairs) none full (sided-length back pairs)
+  pub none_above : repeats (aboves xs) ≡ false
+  none_above = let both = parted xs in let all = all_below in no_repeats (aboves xs) (omega arith)

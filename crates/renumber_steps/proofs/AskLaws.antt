@@ -7,11 +7,11 @@ use Prim.Native.Nat.{ℕ, zero, suc, ◌≤◌, ◌<◌}
 use native.Mathlib.Omega.{arith}
 use borrow.Author.Tests.{le-leb, lt-leb}
 use lib.Dec.{leb}
-use lib.ListN.{length, drop}
+use lib.ListN.{length, get_or-eq_default, replicate}
+use Rattle.std.specs.List.{list_any}
+use Rattle.std.proofs.lemmas.List.{length-replicate, get_or-replicate}
 use Rattle.word_bits.specs.Counts.{some, all}
 use Rattle.word_bits.proofs.Order.{lt-or-le}
-use Rattle.blocks.specs.Sweeps.{swept}
-use Rattle.blocks.proofs.BlockLaws.{zeroed}
 use Rattle.sets.specs.Members.{Members, words_of, read, write, empty, set_of}
 use Rattle.sets.specs.Questions.{first, questions, new_questions, position_question, positions_question, both_questions}
 use Rattle.sets.specs.Outcomes.{Outcome}
@@ -20,18 +20,15 @@ use Rattle.sets.specs.declared.answers.Told.{Told}
 use Rattle.sets.proofs.OutcomeLaws.{given_yes, edited_no}
 use Rattle.sets.proofs.QuestionLaws.{Valid, valid, valid_yes, first_no, first-yes, first-both, position_yes, position_no, room}
 use Rattle.sets.proofs.ReadLaws.{write_valid}
-use Rattle.sets.proofs.WriteLaws.{Clipped, length-write, read-write}
-use Rattle.sets.proofs.ZeroLaws.{zeroed_write}
+use Rattle.sets.proofs.WriteLaws.{Clipped, length-write, read-write, write_is}
+use Rattle.sets.proofs.ZeroLaws.{no_members}
 use Rattle.comparisons.specs.Relations.{subset}
 use Rattle.comparisons.specs.Rules.{is_subset_rule}
 use Rattle.edits.specs.Edits.{is_in}
 use Rattle.renumber_steps.specs.Pairs.{olds, news, repeats, renumbered, sided_pair, sided}
 use Rattle.renumber_steps.specs.Rules.{olds_question, news_question, members_question, pairs_questions, renumber_questions, renumber_rule}
-use Rattle.renumber_steps.specs.Passes.{Taken, matches, found, aboves, passed, cleared, shared, pairs_number}
+use Rattle.renumber_steps.specs.Passes.{Taken, aboves, marking_all, moved, cleared, shared, pairs_number}
 use Rattle.renumber_steps.specs.declared.pair.Pair.{Pair}
-use Rattle.renumber_steps.specs.declared.steps.Test.TheVariants.{AtLeast}
-use Rattle.renumber_steps.specs.declared.steps.Task.TheVariants.{Mark, Move}
-use Rattle.renumber_steps.proofs.MarkLaws.{mark_cleared}
 use Rattle.renumber_steps.proofs.RepeatLaws.{hits, marks, hits_repeats, marks_len, marks_clipped, marks_has}
 use Rattle.renumber_steps.proofs.RunLaws.{marked_run, moved_all}
 
@@ -47,41 +44,45 @@ sides false (p ∷ ps) = ap (λ (l : List ℕ). p.new ∷ l) (sides false ps)
 -- ---- 10 and 11
 
 clear_write : (ms : List ℕ) → length ms ≡ 1024 → cleared ms ≡ write ms (empty 65536)
-unfolding words_of
-clear_write ms e = sym (mark_cleared ms) ∙ ap (λ (n : ℕ). swept 0 n zeroed ms) e ∙ zeroed_write 65536 ms (rw e (omega arith))
+unfolding cleared words_of
+clear_write ms e =
+    write_is ms (empty 65536) (replicate (length ms) 0) (rw e (omega arith)) (length-replicate {A = ℕ} (length ms) 0)
+    (λ k h. get_or-replicate (length ms) k 0 0 (rw e (omega arith)) ∙ no_members (λ p. false) k (λ j l. refl))
+    (λ k h. get_or-eq_default (replicate (length ms) 0) 0 (rw (length-replicate {A = ℕ} (length ms) 0, e) (omega arith))
+    ∙ sym (get_or-eq_default ms 0 (rw e (omega arith))))
 
 none_clipped : (n : ℕ) → Clipped (empty n)
 none_clipped n = record { above = λ p h. refl }
 
-module _ (ws ms : List ℕ) (ps : List Pair) (size : length ms ≡ 1024) where
-  pub run : passed Mark ws ps (cleared ms) ≡ record { found = hits (empty 65536) (olds ps); words = write ms (marks (empty 65536) (olds ps)) }
-  run = ap (passed Mark ws ps) (clear_write ms size) ∙ marked_run ws ms ps (empty 65536) (none_clipped 65536) refl size
+module _ (ms xs : List ℕ) (size : length ms ≡ 1024) where
+  pub run : marking_all (cleared ms) xs ≡ record { found = hits (empty 65536) xs; words = write ms (marks (empty 65536) xs) }
+  run = ap (λ (l : List ℕ). marking_all l xs) (clear_write ms size) ∙ marked_run ms xs (empty 65536) (none_clipped 65536) refl size
 
-  shared-found : (shared ws ps ms).found ≡ repeats (olds ps)
+  shared-found : (shared xs ms).found ≡ repeats xs
   unfolding shared
-  shared-found = ap (λ (t : Taken). t.found || repeats (aboves (olds ps))) run ∙ hits_repeats (olds ps)
+  shared-found = ap (λ (t : Taken). t.found || repeats (aboves xs)) run ∙ hits_repeats xs
 
-  shared-words : (shared ws ps ms).words ≡ write ms (marks (empty 65536) (olds ps))
+  shared-words : (shared xs ms).words ≡ write ms (marks (empty 65536) xs)
   unfolding shared
   shared-words = ap (λ (t : Taken). t.words) run
 
-  shared-size : length (shared ws ps ms).words ≡ 1024
+  shared-size : length (shared xs ms).words ≡ 1024
   unfolding words_of
-  shared-size =
-      ap length shared-words
-      ∙ length-write ms (marks (empty 65536) (olds ps)) (rw (marks_len (empty 65536) (olds ps), size) (omega arith)) ∙ size
+  shared-size = ap length shared-words ∙ length-write ms (marks (empty 65536) xs) (rw (marks_len (empty 65536) xs, size) (omega arith)) ∙ size
 
 -- ---- 4
 
-beyond : (n : ℕ) (ps : List Pair) → cond (found (AtLeast n) ps) 4 0 ≡ positions_question (set_of (empty n)) (olds ps)
-unfolding found matches positions_question olds
-beyond n [] = refl
-beyond n (p ∷ ps) = go (lt-or-le p.old n) (beyond n ps)
+pub beyond : (n : ℕ) (back : Bool) (ps : List Pair) → cond (list_any (λ p. leb n (sided_pair back p).old) ps) 4 0 ≡ positions_question (set_of (empty n)) (olds (sided back ps))
+unfolding positions_question olds sided
+beyond n back [] = refl
+beyond n back (p ∷ ps) = go (sided_pair back p).old (lt-or-le (sided_pair back p).old n) (beyond n back ps)
   where
-    go : (p.old < n) ⊎ (n ≤ p.old) → cond (found (AtLeast n) ps) 4 0 ≡ positions_question (set_of (empty n)) (olds ps)
-        → cond (leb n p.old || found (AtLeast n) ps) 4 0 ≡ first (position_question (set_of (empty n)) p.old) (positions_question (set_of (empty n)) (olds ps))
-    go (inl l) e = rw (lt-leb n p.old l) (first-yes (position_yes (set_of (empty n)) p.old l) e)
-    go (inr g) e = rw (le-leb n p.old g) (first_no _ (sym (position_no (set_of (empty n)) p.old g)) (λ z. omega arith))
+    go : (x : ℕ) → (x < n) ⊎ (n ≤ x)
+        → cond (list_any (λ p. leb n (sided_pair back p).old) ps) 4 0 ≡ positions_question (set_of (empty n)) (olds (sided back ps))
+        → cond (leb n x || list_any (λ p. leb n (sided_pair back p).old) ps) 4 0
+        ≡ first (position_question (set_of (empty n)) x) (positions_question (set_of (empty n)) (olds (sided back ps)))
+    go x (inl l) e = rw (lt-leb n x l) (first-yes (position_yes (set_of (empty n)) x l) e)
+    go x (inr g) e = rw (le-leb n x g) (first_no _ (sym (position_no (set_of (empty n)) x g)) (λ z. omega arith))
 
 -- ---- 12
 
@@ -135,11 +136,11 @@ module _ (set : FixedBitSet) (ws ms : List ℕ) (ps : List Pair) (size : length 
       go true false = refl
       go false b = refl
 
-  paired : (is_subset_rule set ws (set_of (empty 65536)) (shared ws ps ms).words).yes
+  paired : (is_subset_rule set ws (set_of (empty 65536)) (shared (olds ps) ms).words).yes
       ≡ not (some (read ws set).len (λ p. (read ws set).has p && not (is_in (olds ps) p)))
   unfolding read
   paired =
-      ap (λ (l : List ℕ). (is_subset_rule set ws (set_of (empty 65536)) l).yes) (shared-words ws ms ps size)
+      ap (λ (l : List ℕ). (is_subset_rule set ws (set_of (empty 65536)) l).yes) (shared-words ms (olds ps) size)
       ∙ ap (λ (t : Told). t.yes) (sym (given_yes (λ m. record { number = m; yes = false }) (sym asked-both) refl))
       ∙ ap (subset (read ws set)) marked-read
       ∙ all-some set.length _ (λ p. (read ws set).has p && not (is_in (olds ps) p)) listed
@@ -168,24 +169,24 @@ module _ (set : FixedBitSet) (ws : List ℕ) (back : Bool) (pairs : List Pair) (
   abbrev qs : List Pair
   qs = sided (not back) pairs
 
-  pub asked-pairs : pairs_number (shared ws ps ms).found (shared ws qs (shared ws ps ms).words).found (found (AtLeast n) (sided (not back) (drop 0 pairs)))
-      (is_subset_rule set ws (set_of (empty 65536)) (shared ws ps ms).words).yes
+  pub asked-pairs : (b : Bool) → cond b 4 0 ≡ positions_question (set_of (empty n)) (olds qs)
+      → pairs_number (shared (olds ps) ms).found (shared (olds qs) (shared (olds ps) ms).words).found b (is_subset_rule set ws (set_of (empty 65536)) (shared (olds ps) ms).words).yes
       ≡ pairs_questions ps n (read ws set)
   unfolding olds_question news_question members_question
-  asked-pairs =
+  asked-pairs b beyond =
       decided _ _ _ _
-      (ap (λ (b : Bool). cond b 10 0) (sym (shared-found ws ms ps size)))
+      (ap (λ (b : Bool). cond b 10 0) (sym (shared-found ms (olds ps) size)))
       (ap (λ (l : List ℕ). cond (repeats l) 11 0) (sym (sides back pairs))
-      ∙ ap (λ (b : Bool). cond b 11 0) (sym (shared-found ws (shared ws ps ms).words qs (shared-size ws ms ps size))))
-      (ap (positions_question (set_of (empty n))) (sym (sides back pairs)) ∙ sym (beyond n qs))
-      (λ q. twelve (is_subset_rule set ws (set_of (empty 65536)) (shared ws ps ms).words).yes
-      (some (read ws set).len (λ p. (read ws set).has p && not (is_in (olds ps) p))) (paired set ws ms ps size (valid set ws e) (sym (shared-found ws ms ps size) ∙ q)))
+      ∙ ap (λ (b : Bool). cond b 11 0) (sym (shared-found (shared (olds ps) ms).words (olds qs) (shared-size ms (olds ps) size))))
+      (ap (positions_question (set_of (empty n))) (sym (sides back pairs)) ∙ sym beyond)
+      (λ q. twelve (is_subset_rule set ws (set_of (empty 65536)) (shared (olds ps) ms).words).yes
+      (some (read ws set).len (λ p. (read ws set).has p && not (is_in (olds ps) p))) (paired set ws ms ps size (valid set ws e) (sym (shared-found ms (olds ps) size) ∙ q)))
 
 -- ---- what is left
 
 module _ (set : FixedBitSet) (ws : List ℕ) (ps : List Pair) (n : ℕ) (vs : List ℕ) where
   pub renumbered_by : renumber_questions set ws ps n (length vs) ≡ 0
-      → ◌≡◌ {A = Outcome} (record { number = 0; set = set_of (empty n); words = (passed (Move set) ws ps (write vs (empty n))).words }) (renumber_rule set ws ps n vs)
+      → ◌≡◌ {A = Outcome} (record { number = 0; set = set_of (empty n); words = moved (read ws set) (write vs (empty n)) ps }) (renumber_rule set ws ps n vs)
   unfolding renumbered
   renumbered_by e =
       let s = first-both (first (questions set ws) (new_questions n (length vs))) (pairs_questions ps n (read ws set)) e in
@@ -195,7 +196,7 @@ module _ (set : FixedBitSet) (ws : List ℕ) (ps : List Pair) (n : ℕ) (vs : Li
       let below = (first-both (positions_question (set_of (empty n)) (news ps)) (members_question ps (read ws set)) below-asked).0 in
       given_yes _ (sym e)
       (ap (λ (l : List ℕ). record { number = 0; set = set_of (empty n); words = l })
-      (moved_all set ws vs ps n (room n (length vs) room-asked).enough below))
+      (moved_all (read ws set) vs ps n (room n (length vs) room-asked).enough below))
 
   pub refused_by : (m : ℕ) → renumber_questions set ws ps n (length vs) ≡ suc m
       → ◌≡◌ {A = Outcome} (record { number = suc m; set = set_of (empty 0); words = vs }) (renumber_rule set ws ps n vs)

@@ -1,7 +1,6 @@
 -- The laws of marks, passes and questions, and the promises.
 pub mod Examples
 pub mod MarkLaws
-pub mod TaskLaws
 pub mod RepeatLaws
 pub mod RunLaws
 pub mod AskLaws

@@ -14,13 +14,11 @@ use Rattle.word_bits.specs.Digits.{digit, word_of}
 use Rattle.word_bits.proofs.Digits.{digit_of_zero, digit_word, word_is, word_lt}
 use Rattle.word_bits.proofs.Operations.{digit_or, digit_power}
 use Rattle.word_bits.proofs.SingleBit.{single_bit, test_bit}
-use Rattle.blocks.specs.Sweeps.{swept}
-use Rattle.blocks.proofs.BlockLaws.{swept_ext, zeroed, zeroed_is}
 use Rattle.sets.specs.Members.{Members, words_of, bit_of, write, changed}
 use Rattle.sets.proofs.WordLaws.{word_of_lem}
 use Rattle.sets.proofs.WriteLaws.{length-write, write_in, write_out, write_is}
 use Rattle.edits.specs.Edits.{inserted}
-use Rattle.renumber_steps.specs.Passes.{Taken, marked, marking, cleared}
+use Rattle.renumber_steps.specs.Passes.{Taken, marked, marking}
 
 -- ---- the code
 
@@ -43,11 +41,6 @@ mark_in ws x =
     (single_bit (x % 64) (omega arith))
     ∙ ap (λ (b : Bool). record { found = b; words = set_at ws (x / 64) (bit_or (get_or ws (x / 64) 0) (2 ^ (x % 64))) })
     (test_bit (get_or ws (x / 64) 0) (x % 64) (omega arith))
-
--- words made 0 are cleared
-pub mark_cleared : (ws : List ℕ) → swept 0 (length ws) zeroed ws ≡ cleared ws
-unfolding cleared
-mark_cleared ws = swept_ext 0 (length ws) zeroed (λ k w. 0) ws (λ i h. zeroed_is i (get_or ws i 0))
 
 -- ---- the words of a set
 

@@ -1,6 +1,6 @@
 -- Lists of pairs: their sides, those of members, and what arrives by them. Assumes nothing.
 use mathlib.Core.Path.{◌≡◌, refl, sym, ap, ap₂, ◌∙◌}
-use mathlib.Core.Bool.{Bool, true, false, ◌&&◌, ◌||◌, true≢false}
+use mathlib.Core.Bool.{Bool, true, false, not, ◌&&◌, ◌||◌, true≢false}
 use mathlib.Core.List.{List, [], ◌∷◌}
 use Prim.Native.Nat.{ℕ}
 use borrow.Author.Tests.{eq-eqb, ne_eqb, eqb-true}
@@ -11,6 +11,11 @@ use Rattle.renumber_steps.specs.Pairs.{olds, news, repeats, arrives, sided_pair,
 use Rattle.renumber_steps.specs.declared.pair.Pair.{Pair}
 
 -- ---- sides
+
+pub swapped_pair : (back : Bool) (p q : Pair) → q ≡ sided_pair back p → record { old = q.new; new = q.old } ≡ sided_pair (not back) p
+unfolding sided_pair
+swapped_pair true p q e = ap (λ (r : Pair). record { old = r.new; new = r.old }) e
+swapped_pair false p q e = ap (λ (r : Pair). record { old = r.new; new = r.old }) e
 
 pub sided_same : (ps : List Pair) → sided false ps ≡ ps
 unfolding sided sided_pair

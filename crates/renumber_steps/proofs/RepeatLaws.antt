@@ -80,7 +80,7 @@ meets_more x t (y ∷ ys) = ap (λ (b : Bool). cond (eqb x y) true (t.has y) || 
         all false false true m = refl
         all false false false m = refl
 
-in_aboves : (x : ℕ) (xs : List ℕ) → 65536 ≤ x → is_in (aboves xs) x ≡ is_in xs x
+pub in_aboves : (x : ℕ) (xs : List ℕ) → 65536 ≤ x → is_in (aboves xs) x ≡ is_in xs x
 unfolding is_in aboves
 in_aboves x [] h = refl
 in_aboves x (y ∷ ys) h = go (lt-or-le y 65536) (in_aboves x ys h)

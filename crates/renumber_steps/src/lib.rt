@@ -1,10 +1,6 @@
-// What a renumbering is, and what one pair does in it: over numbers and lent words.
+// What a renumbering is: a list of pairs and the way it is read. The rule, its laws and its promises are in specs/ and proofs/.
 #![tactic(auto)]
 
 mod pair;
-mod questions;
-mod steps;
 
-pub use pair::{Pair, sided_pair};
-pub use questions::{all_marked, ask_sets, clear_marks, members_marked, pairs_number};
-pub use steps::{Task, Test, at_least, is_above, is_old, mark, matches_pair, take_pair};
+pub use pair::{AsListed, Pair, Side, Swapped};

@@ -1,5 +1,7 @@
-ghost use Rattle.std.specs.Prelude.{◌≡◌};
+ghost use Rattle.std.specs.Prelude.{◌≡◌, Bool, false, not};
 ghost use Rattle.renumber_steps.specs.Pairs.{sided_pair};
+
+use std::marker::PhantomData;
 
 // An old offset and its new one.
 #[repr(C)]
@@ -9,15 +11,38 @@ pub struct Pair {
     pub new: u64,
 }
 
-// The pair as it is read: on the way back its sides change places.
-pub fn sided_pair(pair: Pair, back: bool) -> Pair
-    ensures { result ≡ sided_pair back pair }
-{
-    if back {
-        return Pair {
-            old: pair.new,
-            new: pair.old,
-        };
+// Which side of a pair is read as the old one: each loop over pairs is made for one way.
+pub trait Side {
+    ghost back: { Bool };
+
+    fn sided(pair: Pair) -> Pair
+        ensures { result ≡ sided_pair back pair };
+}
+
+// As the list has them.
+pub struct AsListed;
+
+impl Side for AsListed {
+    ghost back = { false };
+
+    #[tactic(auto, unfolding(crate::specs::Pairs::sided_pair))]
+    fn sided(pair: Pair) -> Pair {
+        pair
     }
-    pair
+}
+
+// The sides change places.
+pub struct Swapped<S>(PhantomData<S>);
+
+impl<S: Side> Side for Swapped<S> {
+    ghost back = { not S.back };
+
+    #[tactic(auto, using(crate::proofs::PairListLaws::swapped_pair))]
+    fn sided(pair: Pair) -> Pair {
+        let sided = S::sided(pair);
+        Pair {
+            old: sided.new,
+            new: sided.old,
+        }
+    }
 }

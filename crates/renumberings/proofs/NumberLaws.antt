@@ -1,7 +1,6 @@
--- What `renumber_with` leaves where no question refuses. Assumes nothing.
+-- What a renumbering leaves where no question refuses. Assumes nothing.
 use mathlib.Core.Path.{◌≡◌, refl, sym, ◌∙◌, ap}
 use Prim.Native.Nat.{ℕ}
-use mathlib.Core.Bool.{Bool}
 use mathlib.Core.List.{List}
 use lib.ListN.{length}
 use Rattle.sets.specs.Members.{read, set_of, empty, write}
@@ -12,10 +11,9 @@ use Rattle.sets.specs.declared.answers.Edited.{Edited}
 use Rattle.sets.specs.declared.fixed_bit_set.FixedBitSet.{FixedBitSet}
 use Rattle.sets.proofs.OutcomeLaws.{given_yes}
 use Rattle.sets.proofs.QuestionLaws.{first-yes, first-both}
-use Rattle.renumber_steps.specs.Passes.{Taken, passed}
+use Rattle.renumber_steps.specs.Passes.{moved}
 use Rattle.renumber_steps.specs.Rules.{pairs_questions, renumber_rule}
 use Rattle.renumber_steps.specs.declared.pair.Pair.{Pair}
-use Rattle.renumber_steps.specs.declared.steps.Task.TheVariants.{Move}
 use Rattle.renumber_steps.proofs.AskLaws.{renumbered_by}
 
 module _ (set : FixedBitSet) (ws : List ℕ) (n : ℕ) (vs : List ℕ) (e : 0 ≡ first (questions set ws) (new_questions n (length vs))) where
@@ -27,9 +25,9 @@ module _ (set : FixedBitSet) (ws : List ℕ) (n : ℕ) (vs : List ℕ) (e : 0 �
   pub made : with_capacity_rule n vs ≡ record { number = 0; set = set_of (empty n); words = write vs (empty n) }
   made = sym (given_yes _ (sym (first-both (questions set ws) (new_questions n (length vs)) (sym e)).1) refl)
 
-  pub accepted : (ps : List Pair) (r : Edited) (zs zs' : List ℕ) (stopped : Bool) → 0 ≡ pairs_questions ps n (read ws set) → outcome r zs ≡ with_capacity_rule n vs
-      → record { found = stopped; words = zs' } ≡ passed (Move set) ws ps zs → outcome r zs' ≡ renumber_rule set ws ps n vs
-  accepted ps r zs zs' stopped f fresh moved =
+  pub accepted : (ps : List Pair) (r : Edited) (zs zs' : List ℕ) → 0 ≡ pairs_questions ps n (read ws set) → outcome r zs ≡ with_capacity_rule n vs
+      → zs' ≡ moved (read ws set) zs ps → outcome r zs' ≡ renumber_rule set ws ps n vs
+  accepted ps r zs zs' f fresh e₂ =
       let new = fresh ∙ made in
-      let last : zs' ≡ (passed (Move set) ws ps (write vs (empty n))).words = ap (λ (t : Taken). t.words) moved ∙ ap (λ (l : List ℕ). (passed (Move set) ws ps l).words) (ap (λ (o : Outcome). o.words) new) in
+      let last : zs' ≡ moved (read ws set) (write vs (empty n)) ps = e₂ ∙ ap (λ (l : List ℕ). moved (read ws set) l ps) (ap (λ (o : Outcome). o.words) new) in
       (λ i. record { number = (new i).number; set = (new i).set; words = last i }) ∙ renumbered_by set ws ps n vs (sym (first-yes (sym e) f))

@@ -1,6 +1,8 @@
 // A set moved to another layout, by a list of pairs of an old and a new offset: the functions that read the list.
 #![tactic(auto)]
 
+mod answers;
+mod finds;
 mod moves;
 mod passes;
 mod questions;

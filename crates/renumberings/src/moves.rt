@@ -1,48 +1,31 @@
-ghost use Rattle.std.specs.Prelude.{◌≡◌, length};
+ghost use Rattle.std.specs.Prelude.{◌≡◌};
 ghost use Rattle.sets.specs.Members.{set_of, empty};
 ghost use Rattle.sets.specs.Outcomes.{outcome};
 ghost use Rattle.sets.specs.Refusals.{edited_of};
 ghost use Rattle.renumber_steps.specs.Pairs.{sided, swapped};
 ghost use Rattle.renumber_steps.specs.Rules.{renumber_rule};
 
-use crate::passes::pass;
+use crate::answers::ask_sets;
+use crate::passes::move_members;
 use crate::questions::ask_pairs;
 use fresh_sets::with_capacity;
-use renumber_steps::{Pair, Task, ask_sets};
+use renumber_steps::{AsListed, Pair, Side, Swapped};
 use sets::{FixedBitSet, Refusal};
 
-// Pairs are read from old to new, or back. `marks` are 1,024 words of the caller's.
-pub(crate) fn renumber_with(
+fn renumber_sided<S: Side>(
     set: FixedBitSet,
     words: &[u64],
     pairs: &[Pair],
-    back: bool,
     bits: usize,
     out: &mut [u64],
-    marks: &mut [u64],
 ) -> Result<FixedBitSet, Refusal>
-    ensures { length marks.old ≡ 1024
-        → outcome (edited_of (set_of (empty 0)) result) out.new ≡ renumber_rule set words.now (sided back pairs.now) bits out.old }
+    ensures { outcome (edited_of (set_of (empty 0)) result) out.new ≡ renumber_rule set words.now (sided S.back pairs.now) bits out.old }
 {
     ask_sets(set, words, bits, out)?;
-    ask_pairs(set, words, pairs, back, bits, marks)?;
+    ask_pairs::<S>(set, words, pairs, bits)?;
     let renumbered = with_capacity(bits, out)?;
-    pass(pairs, back, Task::Move(set), words, out);
+    move_members::<S>(set, words, pairs, out);
     Ok(renumbered)
-}
-
-fn renumber_sided(
-    set: FixedBitSet,
-    words: &[u64],
-    pairs: &[Pair],
-    back: bool,
-    bits: usize,
-    out: &mut [u64],
-) -> Result<FixedBitSet, Refusal>
-    ensures { outcome (edited_of (set_of (empty 0)) result) out.new ≡ renumber_rule set words.now (sided back pairs.now) bits out.old }
-{
-    let mut marks = [0u64; 1024];
-    renumber_with(set, words, pairs, back, bits, out, &mut marks)
 }
 
 // The set of `bits` bits with exactly the new offset of each member. Asks 1 to 3 of the old set, 6 and 7 of the new one, then 10, 11, 4 and 12 of the pairs;
@@ -56,7 +39,7 @@ pub fn renumber(
 ) -> Result<FixedBitSet, Refusal>
     ensures { outcome (edited_of (set_of (empty 0)) result) out.new ≡ renumber_rule set words.now pairs.now bits out.old }
 {
-    renumber_sided(set, words, pairs, false, bits, out)
+    renumber_sided::<AsListed>(set, words, pairs, bits, out)
 }
 
 // `renumber` with every pair swapped.
@@ -69,5 +52,5 @@ pub fn renumber_back(
 ) -> Result<FixedBitSet, Refusal>
     ensures { outcome (edited_of (set_of (empty 0)) result) out.new ≡ renumber_rule set words.now (swapped pairs.now) bits out.old }
 {
-    renumber_sided(set, words, pairs, true, bits, out)
+    renumber_sided::<Swapped<AsListed>>(set, words, pairs, bits, out)
 }

@@ -1,44 +1,50 @@
-ghost use Rattle.std.specs.Prelude.{◌≡◌, drop};
-ghost use Rattle.renumber_steps.specs.Pairs.{sided, olds, repeats};
-ghost use Rattle.renumber_steps.specs.Passes.{Taken, found, passed, aboves};
+ghost use Rattle.std.specs.Prelude.{◌≡◌};
+ghost use Rattle.sets.specs.Members.{read};
+ghost use Rattle.renumber_steps.specs.Pairs.{sided, olds};
+ghost use Rattle.renumber_steps.specs.Passes.{Taken, marking, marking_all, moved};
 
-use renumber_steps::{Pair, Task, Test, is_above, is_old, matches_pair, take_pair};
+use renumber_steps::{Pair, Side};
+use sets::{FixedBitSet, member};
 
-// Whether a pair from a place on meets the test.
-pub(crate) fn finds(pairs: &[Pair], from: usize, back: bool, test: Test) -> bool
-    ensures { result ≡ found test (sided back (drop from pairs.now)) }
+// Makes the bit of an offset 1 where the words have it, and tells whether it was. Asks nothing.
+fn mark(words: &mut [u64], offset: u64) -> bool
+    ensures { record { found = result; words = words.new } ≡ marking words.old offset }
 {
-    for k in from..pairs.len() {
-        if matches_pair(test, pairs[k], back) {
+    let k = (offset / 64) as usize;
+    if words.len() <= k {
+        return false;
+    }
+    let rem = offset % 64;
+    let word = words[k];
+    words[k] = word | (1 << rem);
+    word & (1 << rem) != 0
+}
+
+// Marks each old offset, up to the first that is marked already; tells whether there is one.
+pub(crate) fn mark_olds<S: Side>(pairs: &[Pair], marks: &mut [u64]) -> bool
+    ensures { record { found = result; words = marks.new } ≡ marking_all marks.old (olds (sided S.back pairs.now)) }
+{
+    for pair in pairs {
+        if mark(marks, S::sided(*pair).old) {
             return true;
         }
     }
     false
 }
 
-// Whether two old offsets from 65,536 up are equal: each is held against those behind it.
-pub(crate) fn repeats_above(pairs: &[Pair], back: bool) -> bool
-    ensures { result ≡ repeats (aboves (olds (sided back pairs.now))) }
+// Marks the new offset of each member.
+pub(crate) fn move_members<S: Side>(
+    set: FixedBitSet,
+    words: &[u64],
+    pairs: &[Pair],
+    out: &mut [u64],
+)
+    ensures { out.new ≡ moved (read words.now set) out.old (sided S.back pairs.now) }
 {
-    for k in 0..pairs.len() {
-        let pair = pairs[k];
-        if is_above(pair, back) {
-            if finds(pairs, k + 1, back, is_old(pair, back)) {
-                return true;
-            }
+    for pair in pairs {
+        let sided = S::sided(*pair);
+        if member(set, words, sided.old as usize) {
+            mark(out, sided.new);
         }
     }
-    false
-}
-
-// Every pair from the first on, up to one that stops the pass.
-pub(crate) fn pass(pairs: &[Pair], back: bool, task: Task, olds: &[u64], words: &mut [u64]) -> bool
-    ensures { record { found = result; words = words.new } ≡ passed task olds.now (sided back pairs.now) words.old }
-{
-    for k in 0..pairs.len() {
-        if take_pair(task, pairs[k], back, olds, words) {
-            return true;
-        }
-    }
-    false
 }

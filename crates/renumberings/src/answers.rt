@@ -3,45 +3,42 @@ ghost use Rattle.sets.specs.Members.{set_of, empty};
 ghost use Rattle.sets.specs.Questions.{first, questions, new_questions};
 ghost use Rattle.sets.specs.Refusals.{number_of};
 ghost use Rattle.comparisons.specs.Rules.{is_subset_rule};
-ghost use Rattle.renumber_steps.specs.Passes.{cleared, all_marked, pairs_number};
+ghost use Rattle.renumber_steps.specs.Passes.{all_marked, pairs_number};
 
-use blocks::change_blocks;
 use comparisons::is_subset;
 use range_counts::ones_of_words;
 use sets::{FixedBitSet, Refusal, check_new};
 
 // Questions 1 to 3 of the old set, then 6 and 7 of the new one.
-pub fn ask_sets(set: FixedBitSet, words: &[u64], bits: usize, out: &[u64]) -> Result<(), Refusal>
+pub(crate) fn ask_sets(
+    set: FixedBitSet,
+    words: &[u64],
+    bits: usize,
+    out: &[u64],
+) -> Result<(), Refusal>
     ensures { number_of result ≡ first (questions set words.now) (new_questions bits (length out.now)) }
 {
     set.check(words)?;
     check_new(bits, out)
 }
 
-// Makes every word 0. Writes lent words and asks nothing.
-pub fn clear_marks(marks: &mut [u64])
-    ensures { marks.new ≡ cleared marks.old }
-{
-    let all = marks.len();
-    change_blocks(marks, 0, all, 0, 0);
-}
-
 // Whether 1,024 words of marks have so many.
-pub fn all_marked(marks: &[u64], count: usize) -> bool
+pub(crate) fn all_marked(marks: &[u64], count: usize) -> bool
     ensures { result ≡ all_marked marks.now count }
 {
     marks.len() == 1024 && ones_of_words(marks) == count
 }
 
 // Whether every member is marked.
-pub fn members_marked(set: FixedBitSet, words: &[u64], marks: &[u64]) -> bool
+pub(crate) fn members_marked(set: FixedBitSet, words: &[u64], marks: &[u64]) -> bool
     ensures { result ≡ (is_subset_rule set words.now (set_of (empty 65536)) marks.now).yes }
 {
     is_subset(set, words, FixedBitSet::new(65536), marks).unwrap_or(false)
 }
 
 // The first no of questions 10, 11, 4 and 12.
-pub fn pairs_number(old: bool, new: bool, beyond: bool, paired: bool) -> Result<(), Refusal>
+#[tactic(auto, unfolding(renumber_steps::specs::Passes::pairs_number))]
+pub(crate) fn pairs_number(old: bool, new: bool, beyond: bool, paired: bool) -> Result<(), Refusal>
     ensures { number_of result ≡ pairs_number old new beyond paired }
 {
     if old {
