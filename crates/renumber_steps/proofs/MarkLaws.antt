@@ -29,18 +29,21 @@ mark_out ws x h =
     ap₂ (λ (b : Bool) (l : List ℕ). record { found = b; words = l })
     (sym (ap (λ (w : ℕ). digit w (x % 64)) (get_or-eq_default ws 0 h) ∙ digit_of_zero (x % 64))) (sym (set_out ws (x / 64) _ h))
 
+pub bit_is : (ws : List ℕ) (x : ℕ) → not (eqb (bit_and (get_or ws (x / 64) 0) ((1 * 2 ^ (x % 64)) % 2 ^ 64)) 0) ≡ bit_of ws x
+unfolding bit_of
+bit_is ws x =
+    ap (λ (m : ℕ). not (eqb (bit_and (get_or ws (x / 64) 0) m) 0)) (single_bit (x % 64) (omega arith)) ∙ test_bit (get_or ws (x / 64) 0) (x % 64) (omega arith)
+
 pub mark_in : (ws : List ℕ) (x : ℕ) → ◌≡◌ {A = Taken}
     (record {
       found = not (eqb (bit_and (get_or ws (x / 64) 0) ((1 * 2 ^ (x % 64)) % 2 ^ 64)) 0);
       words = set_at ws (x / 64) (bit_or (get_or ws (x / 64) 0) ((1 * 2 ^ (x % 64)) % 2 ^ 64));
     })
     (marking ws x)
-unfolding marking marked bit_of
+unfolding marking marked
 mark_in ws x =
-    ap (λ (m : ℕ). record { found = not (eqb (bit_and (get_or ws (x / 64) 0) m) 0); words = set_at ws (x / 64) (bit_or (get_or ws (x / 64) 0) m) })
-    (single_bit (x % 64) (omega arith))
-    ∙ ap (λ (b : Bool). record { found = b; words = set_at ws (x / 64) (bit_or (get_or ws (x / 64) 0) (2 ^ (x % 64))) })
-    (test_bit (get_or ws (x / 64) 0) (x % 64) (omega arith))
+    ap₂ (λ (b : Bool) (m : ℕ). record { found = b; words = set_at ws (x / 64) (bit_or (get_or ws (x / 64) 0) m) })
+    (bit_is ws x) (single_bit (x % 64) (omega arith))
 
 -- ---- the words of a set
 

@@ -1,26 +1,12 @@
-ghost use Rattle.std.specs.Prelude.{◌≡◌, length};
+ghost use Rattle.std.specs.Prelude.{◌≡◌};
 ghost use Rattle.sets.specs.Members.{set_of, empty};
-ghost use Rattle.sets.specs.Questions.{first, questions, new_questions};
 ghost use Rattle.sets.specs.Refusals.{number_of};
 ghost use Rattle.comparisons.specs.Rules.{is_subset_rule};
 ghost use Rattle.renumber_steps.specs.Passes.{all_marked, pairs_number};
 
 use comparisons::is_subset;
 use range_counts::ones_of_words;
-use sets::{FixedBitSet, Refusal, check_new};
-
-// Questions 1 to 3 of the old set, then 6 and 7 of the new one.
-pub(crate) fn ask_sets(
-    set: FixedBitSet,
-    words: &[u64],
-    bits: usize,
-    out: &[u64],
-) -> Result<(), Refusal>
-    ensures { number_of result ≡ first (questions set words.now) (new_questions bits (length out.now)) }
-{
-    set.check(words)?;
-    check_new(bits, out)
-}
+use sets::{Checked, FixedBitSet, Refusal};
 
 // Whether 1,024 words of marks have so many.
 pub(crate) fn all_marked(marks: &[u64], count: usize) -> bool
@@ -30,10 +16,11 @@ pub(crate) fn all_marked(marks: &[u64], count: usize) -> bool
 }
 
 // Whether every member is marked.
-pub(crate) fn members_marked(set: FixedBitSet, words: &[u64], marks: &[u64]) -> bool
-    ensures { result ≡ (is_subset_rule set words.now (set_of (empty 65536)) marks.now).yes }
+pub(crate) fn members_marked(set: Checked, marks: &[u64]) -> bool
+    ensures { result ≡ (is_subset_rule (record { length = set.entry.length }) set.entry.words.now (set_of (empty 65536)) marks.now).yes }
 {
-    is_subset(set, words, FixedBitSet::new(65536), marks).unwrap_or(false)
+    let own = FixedBitSet::new(set.length);
+    is_subset(own, set.words, FixedBitSet::new(65536), marks).unwrap_or(false)
 }
 
 // The first no of questions 10, 11, 4 and 12.

@@ -5,12 +5,11 @@ ghost use Rattle.sets.specs.Refusals.{edited_of};
 ghost use Rattle.renumber_steps.specs.Pairs.{sided, swapped};
 ghost use Rattle.renumber_steps.specs.Rules.{renumber_rule};
 
-use crate::answers::ask_sets;
 use crate::passes::move_members;
 use crate::questions::ask_pairs;
 use fresh_sets::with_capacity;
 use renumber_steps::{AsListed, Pair, Side, Swapped};
-use sets::{FixedBitSet, Refusal};
+use sets::{Checked, FixedBitSet, Refusal, check_new};
 
 fn renumber_sided<S: Side>(
     set: FixedBitSet,
@@ -21,10 +20,11 @@ fn renumber_sided<S: Side>(
 ) -> Result<FixedBitSet, Refusal>
     ensures { outcome (edited_of (set_of (empty 0)) result) out.new ≡ renumber_rule set words.now (sided S.back pairs.now) bits out.old }
 {
-    ask_sets(set, words, bits, out)?;
-    ask_pairs::<S>(set, words, pairs, bits)?;
+    let checked = Checked::new(set, words)?;
+    check_new(bits, out)?;
+    ask_pairs::<S>(checked, pairs, bits)?;
     let renumbered = with_capacity(bits, out)?;
-    move_members::<S>(set, words, pairs, out);
+    move_members::<S>(checked, pairs, out);
     Ok(renumbered)
 }
 

@@ -1,10 +1,10 @@
 ghost use Rattle.std.specs.Prelude.{◌≡◌};
-ghost use Rattle.sets.specs.Members.{read};
+ghost use Rattle.sets.specs.CheckedSets.{members};
 ghost use Rattle.renumber_steps.specs.Pairs.{sided, olds};
 ghost use Rattle.renumber_steps.specs.Passes.{Taken, marking, marking_all, moved};
 
 use renumber_steps::{Pair, Side};
-use sets::{FixedBitSet, member};
+use sets::Checked;
 
 // Makes the bit of an offset 1 where the words have it, and tells whether it was. Asks nothing.
 fn mark(words: &mut [u64], offset: u64) -> bool
@@ -32,18 +32,23 @@ pub(crate) fn mark_olds<S: Side>(pairs: &[Pair], marks: &mut [u64]) -> bool
     false
 }
 
+// Whether an offset is a member.
+fn holds(set: Checked, offset: u64) -> bool
+    ensures { result ≡ (members set.entry).has offset }
+{
+    if set.length as u64 <= offset {
+        return false;
+    }
+    set.words[(offset / 64) as usize] & (1 << (offset % 64)) != 0
+}
+
 // Marks the new offset of each member.
-pub(crate) fn move_members<S: Side>(
-    set: FixedBitSet,
-    words: &[u64],
-    pairs: &[Pair],
-    out: &mut [u64],
-)
-    ensures { out.new ≡ moved (read words.now set) out.old (sided S.back pairs.now) }
+pub(crate) fn move_members<S: Side>(set: Checked<'_>, pairs: &[Pair], out: &mut [u64])
+    ensures { out.new ≡ moved (members set.entry) out.old (sided S.back pairs.now) }
 {
     for pair in pairs {
         let sided = S::sided(*pair);
-        if member(set, words, sided.old as usize) {
+        if holds(set, sided.old) {
             mark(out, sided.new);
         }
     }

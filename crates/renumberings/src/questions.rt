@@ -1,6 +1,5 @@
 ghost use Rattle.std.specs.Prelude.{◌≡◌};
-ghost use Rattle.sets.specs.Members.{read};
-ghost use Rattle.sets.specs.Questions.{questions};
+ghost use Rattle.sets.specs.CheckedSets.{members};
 ghost use Rattle.sets.specs.Refusals.{number_of};
 ghost use Rattle.renumber_steps.specs.Pairs.{sided, olds};
 ghost use Rattle.renumber_steps.specs.Rules.{pairs_questions};
@@ -10,7 +9,7 @@ use crate::answers::{all_marked, members_marked, pairs_number};
 use crate::finds::{has_beyond, repeats_above};
 use crate::passes::mark_olds;
 use renumber_steps::{Pair, Side, Swapped};
-use sets::{FixedBitSet, Refusal};
+use sets::{Checked, Refusal};
 
 // Whether two pairs share an old offset. Where none do, the marks are the old offsets below 65,536.
 fn shares<S: Side>(pairs: &[Pair], marks: &mut [u64]) -> bool
@@ -30,16 +29,15 @@ fn shares<S: Side>(pairs: &[Pair], marks: &mut [u64]) -> bool
 // Questions 10, 11, 4 and 12: each goes over all pairs before the next is asked. Whether every member has a pair is read from the marks of the old offsets,
 // before they give way to those of the new ones.
 pub(crate) fn ask_pairs<S: Side>(
-    set: FixedBitSet,
-    words: &[u64],
+    set: Checked<'_>,
     pairs: &[Pair],
     bits: usize,
 ) -> Result<(), Refusal>
-    ensures { questions set words.now ≡ 0 → number_of result ≡ pairs_questions (sided S.back pairs.now) bits (read words.now set) }
+    ensures { number_of result ≡ pairs_questions (sided S.back pairs.now) bits (members set.entry) }
 {
     let mut marks = [0u64; 1024];
     let old = shares::<S>(pairs, &mut marks);
-    let paired = members_marked(set, words, &marks);
+    let paired = members_marked(set, &marks);
     let new = shares::<Swapped<S>>(pairs, &mut marks);
     let beyond = has_beyond::<Swapped<S>>(pairs, bits);
     pairs_number(old, new, beyond, paired)

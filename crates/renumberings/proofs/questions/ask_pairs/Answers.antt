@@ -18,7 +18,9 @@ answered set ws xs ys marks zs zs' b e₁ e₂ e₃ e₄ =
     e₄ ∙ (λ i. pairs_number (found i) (again i) b (kept i))
 
 pub returns : goal.returns
-returns g c = λ good.
+returns g c =
     let a = c.args in
-    answered a.set a.words.now _ _ _ _ _ _ c.shares-old.ensures c.members_marked-paired.ensures c.shares-new.ensures c.pairs_number.ensures
-    ∙ asked-pairs a.set a.words.now g.S.Side.back a.pairs.now a.bits _ refl good _ (ap (λ (b : Bool). cond b 4 0) c.has_beyond-beyond.ensures ∙ beyond a.bits _ a.pairs.now)
+    let set : FixedBitSet = record { length = a.set.length } in
+    answered set a.set.words.now _ _ _ _ _ _ c.shares-old.ensures c.members_marked-paired.ensures c.shares-new.ensures c.pairs_number.ensures
+    ∙ asked-pairs set a.set.words.now g.S.Side.back a.pairs.now a.bits _ refl a.set.sound.asked _
+    (ap (λ (b : Bool). cond b 4 0) c.has_beyond-beyond.ensures ∙ beyond a.bits _ a.pairs.now)
