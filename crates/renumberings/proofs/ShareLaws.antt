@@ -2,7 +2,7 @@
 use mathlib.Core.Path.{◌≡◌, sym, ap, ◌∙◌}
 use mathlib.Core.Bool.{Bool, true, false, ◌&&◌, ◌||◌}
 use mathlib.Core.List.{List}
-use Prim.Native.Nat.{ℕ, ◌*◌}
+use Prim.Native.Nat.{ℕ, ◌*◌, min}
 use borrow.Author.Tests.{eq-eqb, ne_eqb}
 use lib.Dec.{eqb}
 use lib.ListN.{length, replicate}
@@ -13,10 +13,10 @@ use Rattle.renumber_steps.specs.Passes.{Taken, marking_all, aboves, cleared, all
 use Rattle.renumber_steps.proofs.AllMarked.{none_above}
 
 -- 1,024 words and as many marks; other words are not asked
-pub counted : (ms : List ℕ) (n : ℕ) {r : ℕ} → length ms ≡ 1024 → r ≡ count (length ms * 64) (bit_of ms) → eqb r n ≡ all_marked ms n
+pub counted : (ms : List ℕ) (n : ℕ) {r : ℕ} → length ms ≡ 1024 → r ≡ count (min (length ms) 1024 * 64) (bit_of ms) → eqb r n ≡ all_marked ms n
 unfolding all_marked
 counted ms n long e =
-    ap (λ (x : ℕ). eqb x n) (e ∙ ap (λ (l : ℕ). count (l * 64) (bit_of ms)) long)
+    ap (λ (x : ℕ). eqb x n) (e ∙ ap (λ (l : ℕ). count (min l 1024 * 64) (bit_of ms)) long)
     ∙ sym (ap (λ (b : Bool). b && eqb (count 65536 (bit_of ms)) n) (eq-eqb _ 1024 long))
 
 pub not_counted : (ms : List ℕ) (n : ℕ) → (length ms ≡ 1024 → ⊥) → false ≡ all_marked ms n
