@@ -19,7 +19,7 @@ use Rattle.sets.proofs.QuestionLaws.{first-yes, position_yes}
 use Rattle.sets.proofs.WriteLaws.{bit_write}
 use Rattle.edits.specs.Edits.{is_in}
 use Rattle.renumber_steps.specs.Pairs.{olds, repeats, sided}
-use Rattle.renumber_steps.specs.Passes.{Taken, marked, marking, marking_all, aboves, cleared, all_marked}
+use Rattle.renumber_steps.specs.Passes.{Taken, marked, marking, marking_all, aboves, cleared}
 use Rattle.renumber_steps.specs.declared.pair.Pair.{Pair}
 use Rattle.renumber_steps.proofs.CountLaws.{count_list}
 use Rattle.renumber_steps.proofs.RepeatLaws.{held, held_len, held_has, hits, marks, marks_len, marks_has}
@@ -30,10 +30,6 @@ use Rattle.renumber_steps.proofs.AskLaws.{run}
 or_no : (a b : Bool) → (a || b) ≡ false → (a ≡ false) × (b ≡ false)
 or_no true b e = absurd (true≢false e)
 or_no false b e = (refl, e)
-
-and_yes : (a b : Bool) → (a && b) ≡ true → (a ≡ true) × (b ≡ true)
-and_yes true b e = (refl, e)
-and_yes false b e = absurd (true≢false (sym e))
 
 -- an offset that is there is not in the list
 hit_no : (u : Members) (xs : List ℕ) (x : ℕ) → x < u.len → hits u xs ≡ false → u.has x ≡ true → is_in xs x ≡ false
@@ -117,16 +113,11 @@ unfolding olds sided
 sided-length back [] = refl
 sided-length back (p ∷ ps) = ap suc (sided-length back ps)
 
-module _ (ms xs : List ℕ) (none : (marking_all (cleared ms) xs).found ≡ false) (full : all_marked (marking_all (cleared ms) xs).words (length xs) ≡ true) where
-  split : (length (marking_all (cleared ms) xs).words ≡ 1024) × (count 65536 (bit_of (marking_all (cleared ms) xs).words) ≡ length xs)
-  unfolding all_marked
-  split =
-      let both = and_yes (eqb (length (marking_all (cleared ms) xs).words) 1024) _ full in
-      (eqb-true _ 1024 both.0, eqb-true _ (length xs) both.1)
-
-  size : length ms ≡ 1024
+module _ (ms xs : List ℕ) (size : length ms ≡ 1024) (none : (marking_all (cleared ms) xs).found ≡ false) where
+  -- as many words as before
+  pub kept_size : length (marking_all (cleared ms) xs).words ≡ 1024
   unfolding cleared
-  size = sym (length-replicate (length ms) 0) ∙ sym (marking_length (cleared ms) xs) ∙ split.0
+  kept_size = marking_length (cleared ms) xs ∙ length-replicate (length ms) 0 ∙ size
 
   none_hit : hits (empty 65536) xs ≡ false
   none_hit = sym (ap (λ (t : Taken). t.found) (run ms xs size)) ∙ none
@@ -142,10 +133,10 @@ module _ (ms xs : List ℕ) (none : (marking_all (cleared ms) xs).found ≡ fals
       or-false true = refl
       or-false false = refl
 
-  all_below : length (belows xs) ≡ length xs
-  all_below =
+  all_below : count 65536 (bit_of (marking_all (cleared ms) xs).words) ≡ length xs → length (belows xs) ≡ length xs
+  all_below full =
       sym (count_list (set_of (empty 65536)) (belows xs) (belows_once (empty 65536) xs refl none_hit) (belows_fit xs))
-      ∙ sym (count_ext 65536 (bit_of (marking_all (cleared ms) xs).words) (is_in (belows xs)) bits) ∙ split.1
+      ∙ sym (count_ext 65536 (bit_of (marking_all (cleared ms) xs).words) (is_in (belows xs)) bits) ∙ full
 
-  pub none_above : repeats (aboves xs) ≡ false
-  none_above = let both = parted xs in let all = all_below in no_repeats (aboves xs) (omega arith)
+  pub none_above : count 65536 (bit_of (marking_all (cleared ms) xs).words) ≡ length xs → repeats (aboves xs) ≡ false
+  none_above full = let both = parted xs in let all = all_below full in no_repeats (aboves xs) (omega arith)

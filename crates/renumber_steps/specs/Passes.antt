@@ -1,7 +1,6 @@
 -- What the helpers do, offset by offset and pair by pair.
-use Rattle.std.specs.Prelude.{Bool, false, cond, ◌&&◌, ◌||◌, List, [], ◌∷◌, ℕ, ◌/◌, ◌%◌, ◌^◌, eqb, leb, length, get_or, replicate, set as set_at}
+use Rattle.std.specs.Prelude.{Bool, false, cond, ◌||◌, List, [], ◌∷◌, ℕ, ◌/◌, ◌%◌, ◌^◌, leb, length, get_or, replicate, set as set_at}
 use Rattle.std.specs.Int.Bits.{bit_or}
-use Rattle.word_bits.specs.Counts.{count}
 use Rattle.sets.specs.Members.{Members, bit_of}
 use Rattle.renumber_steps.specs.Pairs.{repeats}
 use Rattle.renumber_steps.specs.declared.pair.Pair.{Pair}
@@ -37,10 +36,6 @@ moved s ws (p ∷ ps) = moved s (cond (s.has p.old) (marked ws p.new) ws) ps
 -- every word 0
 unfoldable pub cleared : List ℕ → List ℕ
 cleared ws = replicate (length ws) 0
-
--- whether 1,024 words of marks have so many
-unfoldable pub all_marked : List ℕ → ℕ → Bool
-all_marked ms n = eqb (length ms) 1024 && eqb (count 65536 (bit_of ms)) n
 
 -- whether an offset stands twice in a list: below 65,536 by the marks, from there up by comparing
 unfoldable pub shared : List ℕ → List ℕ → Taken

@@ -2,18 +2,10 @@ ghost use Rattle.std.specs.Prelude.{◌≡◌};
 ghost use Rattle.sets.specs.Members.{set_of, empty};
 ghost use Rattle.sets.specs.Refusals.{number_of};
 ghost use Rattle.comparisons.specs.Rules.{is_subset_rule};
-ghost use Rattle.renumber_steps.specs.Passes.{all_marked, pairs_number};
+ghost use Rattle.renumber_steps.specs.Passes.{pairs_number};
 
 use comparisons::is_subset;
-use range_counts::ones_of_words;
 use sets::{Checked, FixedBitSet, Refusal};
-
-// Whether 1,024 words of marks have so many.
-pub(crate) fn all_marked(marks: &[u64], count: usize) -> bool
-    ensures { result ≡ all_marked marks.now count }
-{
-    marks.len() == 1024 && ones_of_words(marks) == count
-}
 
 // Whether every member is marked.
 pub(crate) fn members_marked(set: Checked, marks: &[u64]) -> bool

@@ -5,14 +5,15 @@ ghost use Rattle.renumber_steps.specs.Pairs.{sided, olds};
 ghost use Rattle.renumber_steps.specs.Rules.{pairs_questions};
 ghost use Rattle.renumber_steps.specs.Passes.{Taken, shared};
 
-use crate::answers::{all_marked, members_marked, pairs_number};
+use crate::answers::{members_marked, pairs_number};
 use crate::finds::{has_beyond, repeats_above};
 use crate::passes::mark_olds;
+use range_counts::ones_of_words;
 use renumber_steps::{Pair, Side, Swapped};
 use sets::{Checked, Refusal};
 
 // Whether two pairs share an old offset. Where none do, the marks are the old offsets below 65,536.
-fn shares<S: Side>(pairs: &[Pair], marks: &mut [u64]) -> bool
+fn shares<S: Side>(pairs: &[Pair], marks: &mut [u64; 1024]) -> bool
     ensures { record { found = result; words = marks.new } ≡ shared (olds (sided S.back pairs.now)) marks.old }
 {
     marks.fill(0);
@@ -20,7 +21,7 @@ fn shares<S: Side>(pairs: &[Pair], marks: &mut [u64]) -> bool
         return true;
     }
     // As many marks as pairs: no offset is from 65,536 up.
-    if all_marked(marks, pairs.len()) {
+    if ones_of_words(marks) == pairs.len() {
         return false;
     }
     repeats_above::<S>(pairs)
