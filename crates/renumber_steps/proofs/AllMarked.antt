@@ -1,29 +1,28 @@
 -- As many marks as pairs: then no offset is from 65,536 up. Assumes nothing.
 use mathlib.Core.Path.{◌≡◌, refl, sym, ap, ap₂, ◌∙◌}
-use mathlib.Core.Bool.{Bool, true, false, cond, ◌&&◌, ◌||◌, true≢false}
+use mathlib.Core.Bool.{Bool, true, false, cond, ◌||◌, true≢false}
 use mathlib.Core.List.{List, [], ◌∷◌}
 use mathlib.Core.Logic.{◌⊎◌, inl, inr}
 use Prim.Native.Nat.{ℕ, suc, ◌+◌, ◌/◌, ◌≤◌, ◌<◌}
 use native.Mathlib.Nat.{add-suc, suc-add}
 use native.Mathlib.Omega.{arith}
-use borrow.Author.Tests.{le-leb, lt-leb, eq-eqb, ne_eqb, eqb-true}
+use borrow.Author.Tests.{le-leb, lt-leb, eq-eqb, ne_eqb}
 use lib.Dec.{eqb, leb}
 use lib.ListN.{length, length-set}
 use Rattle.word_bits.specs.Counts.{count}
 use Rattle.word_bits.proofs.Ones.{count_ext}
 use Rattle.word_bits.proofs.Order.{lt-or-le}
-use Rattle.std.proofs.lemmas.List.{length-replicate}
 use Rattle.sets.specs.Members.{Members, words_of, bit_of, empty, set_of}
 use Rattle.sets.specs.Questions.{positions_question}
 use Rattle.sets.proofs.QuestionLaws.{first-yes, position_yes}
 use Rattle.sets.proofs.WriteLaws.{bit_write}
 use Rattle.edits.specs.Edits.{is_in}
 use Rattle.renumber_steps.specs.Pairs.{olds, repeats, sided}
-use Rattle.renumber_steps.specs.Passes.{Taken, marked, marking, marking_all, aboves, cleared}
+use Rattle.renumber_steps.specs.Passes.{Taken, marked, marking, marking_all, aboves, no_marks}
 use Rattle.renumber_steps.specs.declared.pair.Pair.{Pair}
 use Rattle.renumber_steps.proofs.CountLaws.{count_list}
 use Rattle.renumber_steps.proofs.RepeatLaws.{held, held_len, held_has, hits, marks, marks_len, marks_has}
-use Rattle.renumber_steps.proofs.AskLaws.{run}
+use Rattle.renumber_steps.proofs.AskLaws.{no_marks_long, run}
 
 -- ---- marks that none was there for
 
@@ -113,30 +112,29 @@ unfolding olds sided
 sided-length back [] = refl
 sided-length back (p ∷ ps) = ap suc (sided-length back ps)
 
-module _ (ms xs : List ℕ) (size : length ms ≡ 1024) (none : (marking_all (cleared ms) xs).found ≡ false) where
+module _ (xs : List ℕ) (none : (marking_all no_marks xs).found ≡ false) where
   -- as many words as before
-  pub kept_size : length (marking_all (cleared ms) xs).words ≡ 1024
-  unfolding cleared
-  kept_size = marking_length (cleared ms) xs ∙ length-replicate (length ms) 0 ∙ size
+  pub kept_size : length (marking_all no_marks xs).words ≡ 1024
+  kept_size = marking_length no_marks xs ∙ no_marks_long
 
   none_hit : hits (empty 65536) xs ≡ false
-  none_hit = sym (ap (λ (t : Taken). t.found) (run ms xs size)) ∙ none
+  none_hit = sym (ap (λ (t : Taken). t.found) (run xs)) ∙ none
 
-  bits : (p : ℕ) → p < 65536 → bit_of (marking_all (cleared ms) xs).words p ≡ is_in (belows xs) p
+  bits : (p : ℕ) → p < 65536 → bit_of (marking_all no_marks xs).words p ≡ is_in (belows xs) p
   unfolding words_of
   bits p l =
-      ap (λ (t : Taken). bit_of t.words p) (run ms xs size)
-      ∙ bit_write ms (marks (empty 65536) xs) p (rw (marks_len (empty 65536) xs) (omega arith))
+      ap (λ (t : Taken). bit_of t.words p) (run xs)
+      ∙ bit_write no_marks (marks (empty 65536) xs) p (rw (marks_len (empty 65536) xs) (omega arith))
       ∙ marks_has (empty 65536) xs p l none_hit ∙ or-false (is_in xs p) ∙ sym (belows_in xs p l)
     where
       or-false : (b : Bool) → (b || false) ≡ b
       or-false true = refl
       or-false false = refl
 
-  all_below : count 65536 (bit_of (marking_all (cleared ms) xs).words) ≡ length xs → length (belows xs) ≡ length xs
+  all_below : count 65536 (bit_of (marking_all no_marks xs).words) ≡ length xs → length (belows xs) ≡ length xs
   all_below full =
       sym (count_list (set_of (empty 65536)) (belows xs) (belows_once (empty 65536) xs refl none_hit) (belows_fit xs))
-      ∙ sym (count_ext 65536 (bit_of (marking_all (cleared ms) xs).words) (is_in (belows xs)) bits) ∙ full
+      ∙ sym (count_ext 65536 (bit_of (marking_all no_marks xs).words) (is_in (belows xs)) bits) ∙ full
 
-  pub none_above : count 65536 (bit_of (marking_all (cleared ms) xs).words) ≡ length xs → repeats (aboves xs) ≡ false
+  pub none_above : count 65536 (bit_of (marking_all no_marks xs).words) ≡ length xs → repeats (aboves xs) ≡ false
   none_above full = let both = parted xs in let all = all_below full in no_repeats (aboves xs) (omega arith)

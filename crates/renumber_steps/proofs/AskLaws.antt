@@ -7,7 +7,7 @@ use Prim.Native.Nat.{ℕ, zero, suc, ◌≤◌, ◌<◌}
 use native.Mathlib.Omega.{arith}
 use borrow.Author.Tests.{le-leb, lt-leb}
 use lib.Dec.{leb}
-use lib.ListN.{length, get_or-eq_default, replicate}
+use lib.ListN.{length}
 use Rattle.std.specs.List.{list_any}
 use Rattle.std.proofs.lemmas.List.{length-replicate, get_or-replicate}
 use Rattle.word_bits.specs.Counts.{some, all}
@@ -20,14 +20,14 @@ use Rattle.sets.specs.declared.answers.Told.{Told}
 use Rattle.sets.proofs.OutcomeLaws.{given_yes, edited_no}
 use Rattle.sets.proofs.QuestionLaws.{Valid, valid, valid_yes, first_no, first-yes, first-both, position_yes, position_no, room}
 use Rattle.sets.proofs.ReadLaws.{write_valid}
-use Rattle.sets.proofs.WriteLaws.{Clipped, length-write, read-write, write_is}
+use Rattle.sets.proofs.WriteLaws.{Clipped, read-write, write_is}
 use Rattle.sets.proofs.ZeroLaws.{no_members}
 use Rattle.comparisons.specs.Relations.{subset}
 use Rattle.comparisons.specs.Rules.{is_subset_rule}
 use Rattle.edits.specs.Edits.{is_in}
 use Rattle.renumber_steps.specs.Pairs.{olds, news, repeats, renumbered, sided_pair, sided}
 use Rattle.renumber_steps.specs.Rules.{olds_question, news_question, members_question, pairs_questions, renumber_questions, renumber_rule}
-use Rattle.renumber_steps.specs.Passes.{Taken, aboves, marking_all, moved, cleared, shared, pairs_number}
+use Rattle.renumber_steps.specs.Passes.{Taken, aboves, marking_all, moved, no_marks, shared, pairs_number}
 use Rattle.renumber_steps.specs.declared.pair.Pair.{Pair}
 use Rattle.renumber_steps.proofs.RepeatLaws.{hits, marks, hits_repeats, marks_len, marks_clipped, marks_has}
 use Rattle.renumber_steps.proofs.RunLaws.{marked_run, moved_all}
@@ -43,32 +43,30 @@ sides false (p ∷ ps) = ap (λ (l : List ℕ). p.new ∷ l) (sides false ps)
 
 -- ---- 10 and 11
 
-clear_write : (ms : List ℕ) → length ms ≡ 1024 → cleared ms ≡ write ms (empty 65536)
-unfolding cleared words_of
-clear_write ms e =
-    write_is ms (empty 65536) (replicate (length ms) 0) (rw e (omega arith)) (length-replicate {A = ℕ} (length ms) 0)
-    (λ k h. get_or-replicate (length ms) k 0 0 (rw e (omega arith)) ∙ no_members (λ p. false) k (λ j l. refl))
-    (λ k h. get_or-eq_default (replicate (length ms) 0) 0 (rw (length-replicate {A = ℕ} (length ms) 0, e) (omega arith))
-    ∙ sym (get_or-eq_default ms 0 (rw e (omega arith))))
+pub no_marks_long : length no_marks ≡ 1024
+unfolding no_marks
+no_marks_long = length-replicate {A = ℕ} 1024 0
+
+unmarked : no_marks ≡ write no_marks (empty 65536)
+unfolding no_marks words_of
+unmarked =
+    write_is no_marks (empty 65536) no_marks (rw no_marks_long (omega arith)) refl
+    (λ k h. get_or-replicate 1024 k 0 0 (omega arith) ∙ no_members (λ p. false) k (λ j l. refl)) (λ k h. refl)
 
 none_clipped : (n : ℕ) → Clipped (empty n)
 none_clipped n = record { above = λ p h. refl }
 
-module _ (ms xs : List ℕ) (size : length ms ≡ 1024) where
-  pub run : marking_all (cleared ms) xs ≡ record { found = hits (empty 65536) xs; words = write ms (marks (empty 65536) xs) }
-  run = ap (λ (l : List ℕ). marking_all l xs) (clear_write ms size) ∙ marked_run ms xs (empty 65536) (none_clipped 65536) refl size
+module _ (xs : List ℕ) where
+  pub run : marking_all no_marks xs ≡ record { found = hits (empty 65536) xs; words = write no_marks (marks (empty 65536) xs) }
+  run = ap (λ (l : List ℕ). marking_all l xs) unmarked ∙ marked_run no_marks xs (empty 65536) (none_clipped 65536) refl no_marks_long
 
-  shared-found : (shared xs ms).found ≡ repeats xs
+  shared-found : (shared xs).found ≡ repeats xs
   unfolding shared
   shared-found = ap (λ (t : Taken). t.found || repeats (aboves xs)) run ∙ hits_repeats xs
 
-  shared-words : (shared xs ms).words ≡ write ms (marks (empty 65536) xs)
+  shared-words : (shared xs).words ≡ write no_marks (marks (empty 65536) xs)
   unfolding shared
   shared-words = ap (λ (t : Taken). t.words) run
-
-  shared-size : length (shared xs ms).words ≡ 1024
-  unfolding words_of
-  shared-size = ap length shared-words ∙ length-write ms (marks (empty 65536) xs) (rw (marks_len (empty 65536) xs, size) (omega arith)) ∙ size
 
 -- ---- 4
 
@@ -95,7 +93,7 @@ all-some (suc n) f g h = ap₂ ◌&&◌ (all-some n f g (λ p l. h p (omega arit
     go true b = refl
     go false b = refl
 
-module _ (set : FixedBitSet) (ws ms : List ℕ) (ps : List Pair) (size : length ms ≡ 1024) (v : Valid set ws) (e : repeats (olds ps) ≡ false) where
+module _ (set : FixedBitSet) (ws : List ℕ) (ps : List Pair) (v : Valid set ws) (e : repeats (olds ps) ≡ false) where
   abbrev ts : Members
   ts = marks (empty 65536) (olds ps)
 
@@ -109,22 +107,22 @@ module _ (set : FixedBitSet) (ws ms : List ℕ) (ps : List Pair) (size : length 
   marked_set : set_of ts ≡ set_of (empty 65536)
   marked_set = ap (λ (n : ℕ). record { length = n }) (marks_len (empty 65536) (olds ps))
 
-  marked_room : words_of ts.len ≤ length ms
+  marked_room : words_of ts.len ≤ length no_marks
   unfolding words_of
-  marked_room = rw (marks_len (empty 65536) (olds ps), size) (omega arith)
+  marked_room = rw (marks_len (empty 65536) (olds ps), no_marks_long) (omega arith)
 
   marked_clipped : Clipped ts
   marked_clipped = marks_clipped (empty 65536) (olds ps) (none_clipped 65536)
 
-  marked_valid : Valid (set_of (empty 65536)) (write ms ts)
-  marked_valid = rw (sym marked_set) (write_valid ms ts marked_clipped (rw (marks_len (empty 65536) (olds ps)) (omega arith)) marked_room)
+  marked_valid : Valid (set_of (empty 65536)) (write no_marks ts)
+  marked_valid = rw (sym marked_set) (write_valid no_marks ts marked_clipped (rw (marks_len (empty 65536) (olds ps)) (omega arith)) marked_room)
 
-  marked-read : read (write ms ts) (set_of (empty 65536)) ≡ ts
-  marked-read = rw (sym marked_set) (read-write ms ts marked_clipped)
+  marked-read : read (write no_marks ts) (set_of (empty 65536)) ≡ ts
+  marked-read = rw (sym marked_set) (read-write no_marks ts marked_clipped)
 
-  asked-both : both_questions set ws (set_of (empty 65536)) (write ms ts) ≡ 0
+  asked-both : both_questions set ws (set_of (empty 65536)) (write no_marks ts) ≡ 0
   unfolding both_questions
-  asked-both = sym (first-yes (valid_yes set ws v) (sym (valid_yes (set_of (empty 65536)) (write ms ts) marked_valid)))
+  asked-both = sym (first-yes (valid_yes set ws v) (sym (valid_yes (set_of (empty 65536)) (write no_marks ts) marked_valid)))
 
   listed : (p : ℕ) → p < set.length → (not ((read ws set).has p) || ts.has p) ≡ not ((read ws set).has p && not (is_in (olds ps) p))
   listed p l =
@@ -136,11 +134,11 @@ module _ (set : FixedBitSet) (ws ms : List ℕ) (ps : List Pair) (size : length 
       go true false = refl
       go false b = refl
 
-  paired : (is_subset_rule set ws (set_of (empty 65536)) (shared (olds ps) ms).words).yes
+  paired : (is_subset_rule set ws (set_of (empty 65536)) (shared (olds ps)).words).yes
       ≡ not (some (read ws set).len (λ p. (read ws set).has p && not (is_in (olds ps) p)))
   unfolding read
   paired =
-      ap (λ (l : List ℕ). (is_subset_rule set ws (set_of (empty 65536)) l).yes) (shared-words ms (olds ps) size)
+      ap (λ (l : List ℕ). (is_subset_rule set ws (set_of (empty 65536)) l).yes) (shared-words (olds ps))
       ∙ ap (λ (t : Told). t.yes) (sym (given_yes (λ m. record { number = m; yes = false }) (sym asked-both) refl))
       ∙ ap (subset (read ws set)) marked-read
       ∙ all-some set.length _ (λ p. (read ws set).has p && not (is_in (olds ps) p)) listed
@@ -162,7 +160,7 @@ decided false true c d o n q m = first-yes o (first_no _ (sym n) (λ z. omega ar
 decided false false true d o n q m = first-yes o (first-yes n (first_no _ (sym q) (λ z. omega arith)))
 decided false false false d o n q m = first-yes o (first-yes n (first-yes q (sym (m refl))))
 
-module _ (set : FixedBitSet) (ws : List ℕ) (back : Bool) (pairs : List Pair) (n : ℕ) (ms : List ℕ) (size : length ms ≡ 1024) (e : questions set ws ≡ 0) where
+module _ (set : FixedBitSet) (ws : List ℕ) (back : Bool) (pairs : List Pair) (n : ℕ) (e : questions set ws ≡ 0) where
   abbrev ps : List Pair
   ps = sided back pairs
 
@@ -170,17 +168,17 @@ module _ (set : FixedBitSet) (ws : List ℕ) (back : Bool) (pairs : List Pair) (
   qs = sided (not back) pairs
 
   pub asked-pairs : (b : Bool) → cond b 4 0 ≡ positions_question (set_of (empty n)) (olds qs)
-      → pairs_number (shared (olds ps) ms).found (shared (olds qs) (shared (olds ps) ms).words).found b (is_subset_rule set ws (set_of (empty 65536)) (shared (olds ps) ms).words).yes
+      → pairs_number (shared (olds ps)).found (shared (olds qs)).found b (is_subset_rule set ws (set_of (empty 65536)) (shared (olds ps)).words).yes
       ≡ pairs_questions ps n (read ws set)
   unfolding olds_question news_question members_question
   asked-pairs b beyond =
       decided _ _ _ _
-      (ap (λ (b : Bool). cond b 10 0) (sym (shared-found ms (olds ps) size)))
+      (ap (λ (b : Bool). cond b 10 0) (sym (shared-found (olds ps))))
       (ap (λ (l : List ℕ). cond (repeats l) 11 0) (sym (sides back pairs))
-      ∙ ap (λ (b : Bool). cond b 11 0) (sym (shared-found (shared (olds ps) ms).words (olds qs) (shared-size ms (olds ps) size))))
+      ∙ ap (λ (b : Bool). cond b 11 0) (sym (shared-found (olds qs))))
       (ap (positions_question (set_of (empty n))) (sym (sides back pairs)) ∙ sym beyond)
-      (λ q. twelve (is_subset_rule set ws (set_of (empty 65536)) (shared (olds ps) ms).words).yes
-      (some (read ws set).len (λ p. (read ws set).has p && not (is_in (olds ps) p))) (paired set ws ms ps size (valid set ws e) (sym (shared-found ms (olds ps) size) ∙ q)))
+      (λ q. twelve (is_subset_rule set ws (set_of (empty 65536)) (shared (olds ps)).words).yes
+      (some (read ws set).len (λ p. (read ws set).has p && not (is_in (olds ps) p))) (paired set ws ps (valid set ws e) (sym (shared-found (olds ps)) ∙ q)))
 
 -- ---- what is left
 

@@ -1,5 +1,5 @@
 -- What the helpers do, offset by offset and pair by pair.
-use Rattle.std.specs.Prelude.{Bool, false, cond, ◌||◌, List, [], ◌∷◌, ℕ, ◌/◌, ◌%◌, ◌^◌, leb, length, get_or, replicate, set as set_at}
+use Rattle.std.specs.Prelude.{Bool, false, cond, ◌||◌, List, [], ◌∷◌, ℕ, ◌/◌, ◌%◌, ◌^◌, leb, get_or, replicate, set as set_at}
 use Rattle.std.specs.Int.Bits.{bit_or}
 use Rattle.sets.specs.Members.{Members, bit_of}
 use Rattle.renumber_steps.specs.Pairs.{repeats}
@@ -33,13 +33,13 @@ unfoldable pub moved : Members → List ℕ → List Pair → List ℕ
 moved s ws [] = ws
 moved s ws (p ∷ ps) = moved s (cond (s.has p.old) (marked ws p.new) ws) ps
 
--- every word 0
-unfoldable pub cleared : List ℕ → List ℕ
-cleared ws = replicate (length ws) 0
+-- 1,024 words with no mark
+unfoldable pub no_marks : List ℕ
+no_marks = replicate 1024 0
 
 -- whether an offset stands twice in a list: below 65,536 by the marks, from there up by comparing
-unfoldable pub shared : List ℕ → List ℕ → Taken
-shared ps marks = record { found = (marking_all (cleared marks) ps).found || repeats (aboves ps); words = (marking_all (cleared marks) ps).words }
+unfoldable pub shared : List ℕ → Taken
+shared ps = record { found = (marking_all no_marks ps).found || repeats (aboves ps); words = (marking_all no_marks ps).words }
 
 -- the first no of 10, 11, 4 and 12
 unfoldable pub pairs_number : Bool → Bool → Bool → Bool → ℕ

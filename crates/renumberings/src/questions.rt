@@ -14,7 +14,7 @@ use sets::{Checked, Refusal};
 
 // Whether two pairs share an old offset. Where none do, the marks are the old offsets below 65,536.
 fn shares<S: Side>(pairs: &[Pair], marks: &mut [u64; 1024]) -> bool
-    ensures { record { found = result; words = marks.new } ≡ shared (olds (sided S.back pairs.now)) marks.old }
+    ensures { record { found = result; words = marks.new } ≡ shared (olds (sided S.back pairs.now)) }
 {
     marks.fill(0);
     if mark_olds::<S>(pairs, marks) {
