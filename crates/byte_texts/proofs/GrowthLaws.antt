@@ -1,11 +1,13 @@
 -- What is appended piece by piece. Assumes nothing.
 use mathlib.Core.Path.{◌≡◌, ap, ap₂, ◌∙◌}
 use mathlib.Core.List.{List, ◌++◌}
-use Prim.Native.Nat.{ℕ}
+use Prim.Native.Nat.{ℕ, ◌+◌, ◌≤◌, ◌<◌}
+use native.Mathlib.Omega.{arith}
+use lib.ListN.{length, take}
 use Rattle.byte_texts.specs.Texts.{Written, written}
 use Rattle.byte_texts.specs.Growth.{Appended}
 use Rattle.byte_texts.specs.declared.texts.Text.{Text}
-use Rattle.byte_texts.proofs.TextLaws.{written_more}
+use Rattle.byte_texts.proofs.TextLaws.{written_more, written_same, written_room, written-whole, written_end}
 
 -- ---- as one equation
 
@@ -24,3 +26,24 @@ appended_then {a} {b} {c} {x} {y} h g =
 -- the same bytes, said otherwise
 pub appended_as : {a b : Text} {x y : List ℕ} → Appended a b x → x ≡ y → Appended a b y
 appended_as {a} h e = appended_by (appended_is h ∙ ap (written a.out.now a.end) e) h.buffer
+
+-- ---- a text that was empty
+
+module _ {a b : Text} {x : List ℕ} (h : Appended a b x) (empty : a.end ≡ 0) where
+  pub appended_same : length b.out.now ≡ length a.out.now
+  appended_same = written_same a.out.now a.end x (appended_is h)
+
+  -- what ends before the buffer does has room
+  pub appended_room : b.end < length b.out.now → length x ≤ length a.out.now
+  appended_room l = let r = written_room a.out.now a.end x (omega (arith, h.end, appended_same)) in omega (arith, r)
+
+  -- and is there whole
+  module _ (room : length x ≤ length a.out.now) where
+    enough : a.end + length x ≤ length a.out.now
+    enough = omega (arith, room, empty)
+
+    pub appended_end : b.end ≡ length x
+    appended_end = omega (arith, h.end, written_end a.out.now a.end x enough, empty)
+
+    pub appended_whole : take b.end b.out.now ≡ x
+    appended_whole = ap (λ (w : Written). take w.end w.out) (appended_is h) ∙ written-whole a.out.now a.end x enough ∙ ap (λ (k : ℕ). take k a.out.now ++ x) empty

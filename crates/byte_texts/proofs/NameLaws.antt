@@ -1,17 +1,16 @@
 -- A name as it is shown has at most 43 bytes, so it is whole in a buffer of as many. Assumes nothing.
 use mathlib.Core.Bool.{Bool, true, false, cond}
 use mathlib.Core.List.{List, ◌++◌, map}
-use mathlib.Core.Path.{◌≡◌, refl, ap, ◌∙◌}
+use mathlib.Core.Path.{◌≡◌, refl}
 use native.Mathlib.Omega.{arith}
 use Prim.Native.Nat.{ℕ, ◌-◌, ◌≤◌}
 use lib.Dec.{leb}
 use borrow.Author.Tests.{leb-true, leb-false}
 use lib.ListN.{length, take, drop, length-map, length-drop}
-use Rattle.byte_texts.specs.Texts.{Written, written, shown_name, visible, dots}
+use Rattle.byte_texts.specs.Texts.{written, shown_name, visible, dots}
 use Rattle.byte_texts.specs.Growth.{Appended}
 use Rattle.byte_texts.specs.declared.texts.Text.{Text}
-use Rattle.byte_texts.proofs.GrowthLaws.{appended_is}
-use Rattle.byte_texts.proofs.TextLaws.{written-whole}
+use Rattle.byte_texts.proofs.GrowthLaws.{appended_whole}
 
 shown_short : (name : List ℕ) → length (shown_name name) ≤ 43
 unfolding shown_name dots
@@ -29,6 +28,4 @@ module _ (name : List ℕ) {before after : Text} (empty : before.end ≡ 0) (lon
   shown_fits = omega (arith, h.end, long)
 
   pub shown_is : take after.end after.out.now ≡ shown_name name
-  shown_is =
-      ap (λ (w : Written). take w.end w.out) (appended_is h ∙ ap (λ (k : ℕ). written before.out.now k (shown_name name)) empty)
-      ∙ written-whole before.out.now 0 (shown_name name) (let s : length (shown_name name) ≤ 43 = shown_short name in omega (arith, long))
+  shown_is = appended_whole h empty (let s : length (shown_name name) ≤ 43 = shown_short name in omega (arith, long))

@@ -1,5 +1,5 @@
 use crate::arguments::Words;
-use crate::listing::Offsets;
+use crate::listing::FileOffsets;
 use crate::tool::{Status, Tool};
 use byte_texts::Text;
 use listing_pieces::same_offsets;
@@ -32,7 +32,7 @@ impl<R: Files + Input, W: Write, E: Write> Tool<'_, R, W, E> {
     fn compare_table(
         &mut self,
         job: Job,
-        firmware: Offsets,
+        firmware: FileOffsets,
         name: &[u8],
         words: &mut [u64],
         table: &mut [u64],
@@ -40,7 +40,7 @@ impl<R: Files + Input, W: Write, E: Write> Tool<'_, R, W, E> {
         if self.load(name, words, table).is_err() {
             return Ok(Outcome::NotCompared);
         }
-        let other = Offsets { name, words };
+        let other = FileOffsets { name, words };
         self.write_job(job, firmware, other)?;
         if same_offsets(firmware.words, other.words) {
             return Ok(Outcome::Same);
@@ -52,7 +52,7 @@ impl<R: Files + Input, W: Write, E: Write> Tool<'_, R, W, E> {
     fn compare_tables(
         &mut self,
         job: Job,
-        firmware: Offsets,
+        firmware: FileOffsets,
         table: &mut [u64],
     ) -> Result<Tables, Trouble> {
         let mut words: [u64; 1024] = [0; 1024];
@@ -88,7 +88,7 @@ impl<R: Files + Input, W: Write, E: Write> Tool<'_, R, W, E> {
         let mut words: [u64; 1024] = [0; 1024];
         let mut table: [u64; 65536] = [0; 65536];
         self.load(name, &mut words, &mut table)?;
-        let firmware = Offsets {
+        let firmware = FileOffsets {
             name,
             words: &words,
         };

@@ -1,16 +1,16 @@
 use crate::tool::{Status, Tool};
 use byte_texts::ShownName;
 use listing_pieces::{first_page, next_piece};
-use listings::{Job, Stage};
+use listings::Job;
 use std::io::{Input, Write};
 use std::rt::Files;
 use tool_files::Fragment::{Name, Text};
-use tool_files::{Step, Trouble, write_pieces};
+use tool_files::{Trouble, write_pieces};
 use whole_walks::Walk;
 
 // The offsets of a file, under its name.
 #[derive(Clone, Copy)]
-pub(crate) struct Offsets<'a> {
+pub(crate) struct FileOffsets<'a> {
     pub name: &'a [u8],
     pub words: &'a [u64],
 }
@@ -20,8 +20,8 @@ impl<R: Files + Input, W: Write, E: Write> Tool<'_, R, W, E> {
     pub(crate) fn write_job(
         &mut self,
         job: Job,
-        file: Offsets,
-        other: Offsets,
+        file: FileOffsets,
+        other: FileOffsets,
     ) -> Result<(), Trouble> {
         if self.options.quiet {
             return Ok(());
@@ -31,7 +31,7 @@ impl<R: Files + Input, W: Write, E: Write> Tool<'_, R, W, E> {
         write_pieces(
             first_page(job),
             |page, buffer| {
-                let piece = next_piece(
+                next_piece(
                     job,
                     file.words,
                     other.words,
@@ -39,12 +39,7 @@ impl<R: Files + Input, W: Write, E: Write> Tool<'_, R, W, E> {
                     other_name.bytes(),
                     page,
                     buffer,
-                )?;
-                let over = matches!(piece.page.stage, Stage::Over);
-                Some(Step {
-                    length: piece.length,
-                    left: (!over).then_some(piece.page),
-                })
+                )
             },
             self.out,
             self.err,
@@ -55,8 +50,8 @@ impl<R: Files + Input, W: Write, E: Write> Tool<'_, R, W, E> {
     pub(crate) fn write_walk(
         &mut self,
         walk: Walk,
-        file: Offsets,
-        other: Offsets,
+        file: FileOffsets,
+        other: FileOffsets,
     ) -> Result<Status, Trouble> {
         let job = Job {
             walk,
@@ -80,7 +75,7 @@ impl<R: Files + Input, W: Write, E: Write> Tool<'_, R, W, E> {
         let mut words: [u64; 1024] = [0; 1024];
         let mut table: [u64; 65536] = [0; 65536];
         self.load(name, &mut words, &mut table)?;
-        let file = Offsets {
+        let file = FileOffsets {
             name,
             words: &words,
         };
@@ -101,11 +96,11 @@ impl<R: Files + Input, W: Write, E: Write> Tool<'_, R, W, E> {
         let mut table: [u64; 65536] = [0; 65536];
         self.load(name, &mut words, &mut table)?;
         self.load(other_name, &mut other_words, &mut table)?;
-        let file = Offsets {
+        let file = FileOffsets {
             name,
             words: &words,
         };
-        let other = Offsets {
+        let other = FileOffsets {
             name: other_name,
             words: &other_words,
         };

@@ -1,4 +1,4 @@
-use crate::listing::Offsets;
+use crate::listing::FileOffsets;
 use crate::tool::{Status, Tool};
 use pair_listings::move_members;
 use std::io::{Input, Write};
@@ -10,12 +10,12 @@ use whole_walks::Walk;
 
 impl<R: Files + Input, W: Write, E: Write> Tool<'_, R, W, E> {
     // The list of the new offsets.
-    fn write_moved(&mut self, file: Offsets, to: &[u64]) -> Result<Status, Trouble> {
+    fn write_moved(&mut self, file: FileOffsets, to: &[u64]) -> Result<Status, Trouble> {
         let mut moved: [u64; 1024] = [0; 1024];
         if move_members(file.words, to, &mut moved).is_err() {
             return Err(not_listed(self.err));
         }
-        let list = Offsets {
+        let list = FileOffsets {
             name: file.name,
             words: &moved,
         };
@@ -25,7 +25,7 @@ impl<R: Files + Input, W: Write, E: Write> Tool<'_, R, W, E> {
     // What is asked for: the new offsets, each old offset with its new one, or the pairs for the way back.
     fn write_renumbered(
         &mut self,
-        file: Offsets,
+        file: FileOffsets,
         to: &[u64],
         from: &[u64],
     ) -> Result<Status, Trouble> {
@@ -82,7 +82,7 @@ impl<R: Files + Input, W: Write, E: Write> Tool<'_, R, W, E> {
         )?;
         self.load(name, &mut words, &mut table)?;
         all_paired(&words, &table, &to, name, pairs_name, self.err)?;
-        let file = Offsets {
+        let file = FileOffsets {
             name,
             words: &words,
         };

@@ -16,8 +16,9 @@ use Rattle.listing_lines.specs.Lines.{lines_text, complete_text, verdict_text}
 use Rattle.listings.specs.Pages.{offsets_of, list_text, compare_text, job_text, first_walk, total_of, last_text, second_text, follow_text, first_text, stage_text, rest_text, first_page}
 use Rattle.listing_pieces.specs.Pieces.{stage_number, PieceRight, work_left, Run, done, next}
 use Rattle.listings.specs.declared.jobs.Job.{Job}
-use Rattle.listings.specs.declared.jobs.Page.{Page}
-use Rattle.listing_pieces.specs.Pieces.{Piece}
+use Rattle.listing_lines.specs.declared.pages.Page.{Page}
+use Rattle.whole_walks.specs.declared.whole.Records.{Records}
+use Rattle.listing_lines.specs.Pieces.{Piece}
 use Rattle.listings.specs.declared.jobs.Stage.{Stage}
 use Rattle.listing_lines.proofs.LineLaws.{lines_plain}
 use Rattle.listing_pieces.proofs.SetLaws.{all_left}
@@ -52,9 +53,9 @@ module _ (job : Job) (name other ws vs : List ℕ) where
 
   -- ---- a run
 
-  pub run_is : {page : Page} {texts : List (List ℕ)} → Run job name other a b page texts → flatten texts ≡ rest_text job name other a b page
+  pub run_is : {page : Page Stage Records} {texts : List (List ℕ)} → Run job name other a b page texts → flatten texts ≡ rest_text job name other a b page
   unfolding flatten stage_text
-  run_is {page} (done e) = sym (ap (λ (s : Stage). stage_text s job name other a b page.one page.two page.place) e)
+  run_is {page} (done e) = sym (ap (λ (s : Stage). stage_text s job name other a b page.records page.place) e)
   run_is (next out r w h rest) = ap (λ (t : List ℕ). take r.length out ++ t) (run_is rest) ∙ h.text w
 
   -- pieces that are whole, each from the page that the one before it left, from the first page on until nothing is left to write: joined, they are all that the command writes
@@ -62,7 +63,7 @@ module _ (job : Job) (name other ws vs : List ℕ) where
   pieces_are run = run_is run ∙ first_is
 
   -- each piece leaves less to do, so that a run ends
-  pub piece_less : {page : Page} {out : List ℕ} {r : Piece} → PieceRight job name other a b page out r → r.whole ≡ true → 16384 ≤ length out → stage_number page.stage < 3
+  pub piece_less : {page : Page Stage Records} {out : List ℕ} {r : Piece Stage Records} → PieceRight job name other a b page out r → r.whole ≡ true → 16384 ≤ length out → stage_number page.stage < 3
       → work_left job name other a b r.page < work_left job name other a b page
   piece_less {page} {out} {r} h w m s = go (h.moves w m s)
     where

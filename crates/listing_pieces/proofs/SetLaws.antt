@@ -24,7 +24,7 @@ use Rattle.walks.specs.Rules.{first_part}
 use Rattle.whole_walks.specs.Walks.{walk_list}
 use Rattle.whole_walks.specs.declared.walk.Walk.{Walk}
 use Rattle.whole_walks.specs.declared.walk.Walk.TheVariants.{Ones, Intersection, Difference, Union, SymmetricDifference}
-use Rattle.listings.specs.Pages.{all_offsets, offsets_of, walk_left}
+use Rattle.listings.specs.Pages.{all_offsets, first_records, offsets_of, walk_left}
 use Rattle.listings.proofs.WalkLaws.{left_all}
 
 -- of 65,536 offsets no more can be in a list
@@ -42,7 +42,7 @@ module _ (ws vs : List ℕ) where
   unfolding read
   difference_small = few (λ p. (offsets_of ws).has p && not ((offsets_of vs).has p))
 
-  pub all_left : (walk : Walk) → walk_left walk (offsets_of ws) (offsets_of vs) (first_part all_offsets) (first_part all_offsets) ≡ walk_list walk (offsets_of ws) (offsets_of vs)
+  pub all_left : (walk : Walk) → walk_left walk (offsets_of ws) (offsets_of vs) first_records ≡ walk_list walk (offsets_of ws) (offsets_of vs)
   unfolding read
   all_left walk = left_all walk (offsets_of ws) (offsets_of vs) (read_clipped ws all_offsets) (read_clipped vs all_offsets)
 

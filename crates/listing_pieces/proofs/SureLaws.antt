@@ -7,21 +7,22 @@ use native.Mathlib.Omega.{arith}
 use lib.ListN.{length}
 use Rattle.sets.specs.Members.{Members}
 use Rattle.sets.specs.Questions.{both_questions}
-use Rattle.sets.specs.declared.answers.Part.{Part}
 use Rattle.two_set_counts.specs.Lists.{ones_list, difference_list}
-use Rattle.walks.specs.Rules.{first_part}
 use Rattle.whole_walks.specs.Walks.{walk_list}
 use Rattle.whole_walks.specs.declared.walk.Walk.TheVariants.{Difference}
-use Rattle.byte_texts.specs.Texts.{Written, written}
+use Rattle.byte_texts.specs.Growth.{Appended}
+use Rattle.byte_texts.specs.declared.texts.Text.{Text}
+use Rattle.byte_texts.proofs.GrowthLaws.{appended_same, appended_end}
 use Rattle.listing_lines.specs.Lines.{count_text, complete_text, verdict_text}
 use Rattle.listing_lines.specs.Listings.{has_of, lacks_of}
 use Rattle.whole_walks.specs.declared.walk.Walk.{Walk}
 use Rattle.listings.specs.Fills.{Sure, FilledRight, FilledSure}
-use Rattle.listings.specs.Pages.{all_offsets, offsets_of, walk_left, first_walk, last_text, first_page}
+use Rattle.listings.specs.Pages.{all_offsets, first_records, offsets_of, walk_left, first_walk, last_text, first_page}
 use Rattle.listing_pieces.specs.Pieces.{after_first, page_after, places_left, places_most, Ready, PieceSure}
 use Rattle.listings.specs.Fills.{Filled}
 use Rattle.listings.specs.declared.jobs.Job.{Job}
-use Rattle.listings.specs.declared.jobs.Page.{Page}
+use Rattle.listing_lines.specs.declared.pages.Page.{Page}
+use Rattle.whole_walks.specs.declared.whole.Records.{Records}
 use Rattle.listings.specs.declared.jobs.Stage.{Stage}
 use Rattle.listings.specs.declared.jobs.Stage.TheVariants.{First, Second, Last, Over}
 use Rattle.listing_lines.specs.declared.lines.Listing.{Listing}
@@ -38,19 +39,19 @@ module _ (job : Job) (ws vs : List ℕ) where
   b = offsets_of vs
 
   module _ (walk : Walk) (l : Listing) (us xs : List ℕ) (stage next : Stage)
-      (same : (one two : Part) → places_left stage job a b one two ≡ length (walk_left walk (offsets_of us) (offsets_of xs) one two))
-      (small : places_left next job a b (first_part all_offsets) (first_part all_offsets) ≤ 65536)
+      (same : (p : Records) → places_left stage job a b p ≡ length (walk_left walk (offsets_of us) (offsets_of xs) p))
+      (small : places_left next job a b first_records ≤ 65536)
       (more : places_most stage + 65536 ≤ places_most next) (top : places_most stage ≤ 2 ^ 32) where
-    pub lines_sure : {page : Page} {out : List ℕ} {r : Filled} → FilledRight walk l (offsets_of us) (offsets_of xs) page.one page.two page.place out r
-        → (Sure walk l us xs page.one page.two page.place → FilledSure us xs r) → page.stage ≡ stage
+    pub lines_sure : {page : Page Stage Records} {out : List ℕ} {r : Filled} → FilledRight walk l (offsets_of us) (offsets_of xs) page.records page.place out r
+        → (Sure walk l us xs page.records page.place → FilledSure us xs r) → page.stage ≡ stage
         → both_questions all_offsets us all_offsets xs ≡ 0 → (length (has_of l.missing) ≤ 64) × (length (lacks_of l.missing) ≤ 64) → Ready job a b page
         → PieceSure job a b (record { length = r.length; page = page_after r stage next; whole = r.whole })
     lines_sure {page} {out} {r} h f e q s d = record { whole = sure.whole; ready = go r.over refl }
       where
-        before : page.place + length (walk_left walk (offsets_of us) (offsets_of xs) page.one page.two) ≤ places_most stage
+        before : page.place + length (walk_left walk (offsets_of us) (offsets_of xs) page.records) ≤ places_most stage
         before =
-            let p = subst (λ (x : Stage). page.place + places_left x job a b page.one page.two ≤ places_most x) e d.places in
-            omega (arith, same page.one page.two)
+            let p = subst (λ (x : Stage). page.place + places_left x job a b page.records ≤ places_most x) e d.places in
+            omega (arith, same page.records)
 
         sure : FilledSure us xs r
         sure = f (record { asked = record { sets = q; first = d.first; second = d.second }; short = s; places = omega (arith, before) })
@@ -64,15 +65,15 @@ module _ (job : Job) (ws vs : List ℕ) where
         go false o = unfold page_after in rw o record {
           first = sure.asked.first;
           second = sure.asked.second;
-          places = omega (arith, before, h.counted sure.whole, same r.one r.two);
+          places = omega (arith, before, h.counted sure.whole, same r.records);
         }
 
   -- what follows the first lines
-  pub follow_few : places_left (after_first job) job a b (first_part all_offsets) (first_part all_offsets) ≤ 65536
+  pub follow_few : places_left (after_first job) job a b first_records ≤ 65536
   unfolding after_first places_left
   follow_few = go job.compare
     where
-      go : (t : Bool) → places_left (cond t Second Last) job a b (first_part all_offsets) (first_part all_offsets) ≤ 65536
+      go : (t : Bool) → places_left (cond t Second Last) job a b first_records ≤ 65536
       go true = subst⁻¹ (λ (ps : List ℕ). length ps ≤ 65536) (all_left vs ws Difference) (difference_small vs ws)
       go false = omega arith
 
@@ -98,19 +99,19 @@ module _ (job : Job) (ws vs : List ℕ) where
         go false true = omega (arith, count_most (length (walk_list job.walk a b)))
         go false false = omega (arith, complete_most (length (walk_list job.walk a b)))
 
-    pub last_room : (before : List ℕ) {w : Written} → w ≡ written before 0 (last_text job name other a b) → 16384 ≤ length before → w.end < length before
-    unfolding written
-    last_room before e m = omega (arith, last_short, ap (λ (x : Written). x.end) e)
+    pub last_room : {before after : Text} {out : List ℕ} → Appended before after (last_text job name other a b) → before.end ≡ 0 → out ≡ after.out.now → 16384 ≤ length out → after.end < length after.out.now
+    last_room h z o m = let e = ap length o in
+        omega (arith, e, last_short, appended_end h z (omega (arith, e, last_short, appended_same h z)))
 
-  module _ {page : Page} (d : Ready job a b page) where
-    pub last_sure : {end : ℕ} → page.stage ≡ Last → PieceSure job a b (record { length = end; page = record { stage = Over; one = page.one; two = page.two; place = page.place }; whole = true })
+  module _ {page : Page Stage Records} (d : Ready job a b page) where
+    pub last_sure : {end : ℕ} → page.stage ≡ Last → PieceSure job a b (record { length = end; page = record { stage = Over; records = page.records; place = page.place }; whole = true })
     unfolding places_left
     last_sure e = record {
       whole = refl;
       ready = record {
         first = d.first;
         second = d.second;
-        places = subst (λ (x : Stage). page.place + places_left x job a b page.one page.two ≤ places_most x) e d.places;
+        places = subst (λ (x : Stage). page.place + places_left x job a b page.records ≤ places_most x) e d.places;
       };
     }
 
@@ -123,6 +124,6 @@ module _ (job : Job) (ws vs : List ℕ) where
   unfolding first_page
   first_ready = record { first = first-asked; second = first-asked; places = go job.count }
     where
-      go : (t : Bool) → 1 + places_left (cond t Last First) job a b (first_part all_offsets) (first_part all_offsets) ≤ places_most (cond t Last First)
+      go : (t : Bool) → 1 + places_left (cond t Last First) job a b first_records ≤ places_most (cond t Last First)
       go true = unfold places_left in omega arith
       go false = unfold places_left in omega (arith, ap length (all_left ws vs (first_walk job)), walk_small ws vs (first_walk job))

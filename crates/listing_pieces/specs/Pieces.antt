@@ -1,18 +1,17 @@
 -- What the next piece has to be.
-use Rattle.std.specs.Prelude.{◌≡◌, Bool, true, false, cond, Option, None, Some, List, [], ◌∷◌, ◌++◌, ◌⊎◌, ℕ, ◌+◌, ◌-◌, ◌^◌, ◌≤◌, ◌<◌, length, take}
+use Rattle.std.specs.Prelude.{◌≡◌, true, false, cond, Option, List, [], ◌∷◌, ◌++◌, ◌⊎◌, ℕ, ◌+◌, ◌-◌, ◌^◌, ◌≤◌, ◌<◌, length, take}
 use Rattle.sets.specs.Members.{Members}
 use Rattle.sets.specs.Questions.{part_question}
-use Rattle.sets.specs.declared.answers.Part.{Part}
 use Rattle.two_set_counts.specs.Lists.{ones_list, difference_list}
-use Rattle.walks.specs.Rules.{first_part}
+use Rattle.whole_walks.specs.declared.whole.Records.{Records}
 use Rattle.whole_walks.specs.declared.walk.Walk.TheVariants.{Difference}
-use Rattle.listings.specs.Pages.{all_offsets, walk_left, first_walk, rest_text}
+use Rattle.listings.specs.Pages.{all_offsets, first_records, walk_left, first_walk, rest_text}
 use Rattle.listings.specs.Fills.{Filled}
 use Rattle.listing_lines.specs.Listings.{is_missing, has_of, lacks_of}
 use Rattle.listing_lines.specs.declared.lines.Missing.{Missing}
 use Rattle.listings.specs.declared.jobs.Job.{Job}
-use Rattle.listings.specs.declared.jobs.Page.{Page}
-use Rattle.listings.specs.declared.jobs.Written.{Written}
+use Rattle.listing_lines.specs.Pieces.{Piece}
+use Rattle.listing_lines.specs.declared.pages.Page.{Page}
 use Rattle.listings.specs.declared.jobs.Stage.{Stage}
 use Rattle.listings.specs.declared.jobs.Stage.TheVariants.{First, Second, Last, Over}
 use Rattle.verdict_lines.specs.declared.last_lines.Sizes.{Sizes}
@@ -26,10 +25,9 @@ unfoldable pub after_first : Job → Stage
 after_first job = cond job.compare Second Last
 
 -- the page after lines
-unfoldable pub page_after : Filled → Stage → Stage → Page
+unfoldable pub page_after : Filled → Stage → Stage → Page Stage Records
 page_after r stage next =
-    cond r.over (record { stage = next; one = first_part all_offsets; two = first_part all_offsets; place = r.place })
-    (record { stage = stage; one = r.one; two = r.two; place = r.place })
+    cond r.over (record { stage = next; records = first_records; place = r.place }) (record { stage = stage; records = r.records; place = r.place })
 
 -- the stages in order
 abbrev pub stage_number : Stage → ℕ
@@ -44,18 +42,7 @@ pub record MissingOf (job : Job) (name other : List ℕ) (m : Option Missing) : 
   pub named : job.compare ≡ true → (has_of m ≡ name) × (lacks_of m ≡ other)
   pub unnamed : job.compare ≡ false → (has_of m ≡ []) × (lacks_of m ≡ [])
 
--- how many bytes of the buffer are the next piece, what is left then, and whether it could be written
-pub record Piece : Type 0 where
-  pub length : ℕ
-  pub page : Page
-  pub whole : Bool
-
--- what a call gives, as such a record: nothing is none
-abbrev pub piece_of : Page → Option Written → Piece
-piece_of page None = record { length = 0; page = page; whole = false }
-piece_of page (Some w) = record { length = w.length; page = w.page; whole = true }
-
-pub record PieceRight (job : Job) (name other : List ℕ) (a b : Members) (page : Page) (out : List ℕ) (r : Piece) : Type 0 where
+pub record PieceRight (job : Job) (name other : List ℕ) (a b : Members) (page : Page Stage Records) (out : List ℕ) (r : Piece Stage Records) : Type 0 where
   pub fits : r.length ≤ length out
   -- a piece that is whole, and what is left to write after it, are what was left to write before it
   pub text : r.whole ≡ true → take r.length out ++ rest_text job name other a b r.page ≡ rest_text job name other a b page
@@ -64,15 +51,15 @@ pub record PieceRight (job : Job) (name other : List ℕ) (a b : Members) (page 
   pub moves : r.whole ≡ true → 16384 ≤ length out → stage_number page.stage < 3 → (0 < r.length) ⊎ (stage_number page.stage < stage_number r.page.stage)
 
 -- the bytes and the stages that are left: each piece leaves fewer
-abbrev pub work_left : Job → List ℕ → List ℕ → Members → Members → Page → ℕ
+abbrev pub work_left : Job → List ℕ → List ℕ → Members → Members → Page Stage Records → ℕ
 work_left job name other a b page = length (rest_text job name other a b page) + (3 - stage_number page.stage)
 
 -- how many lines are left at a stage, and a bound of the places there
-unfoldable pub places_left : Stage → Job → Members → Members → Part → Part → ℕ
-places_left First job a b one two = length (walk_left (first_walk job) a b one two)
-places_left Second job a b one two = length (walk_left Difference b a one two)
-places_left Last job a b one two = 0
-places_left Over job a b one two = 0
+unfoldable pub places_left : Stage → Job → Members → Members → Records → ℕ
+places_left First job a b p = length (walk_left (first_walk job) a b p)
+places_left Second job a b p = length (walk_left Difference b a p)
+places_left Last job a b p = 0
+places_left Over job a b p = 0
 
 abbrev pub places_most : Stage → ℕ
 places_most First = 2 ^ 20
@@ -81,23 +68,23 @@ places_most Last = 2 ^ 22
 places_most Over = 2 ^ 22
 
 -- a page whose records pass their questions and whose places are within the bound
-pub record Ready (job : Job) (a b : Members) (page : Page) : Type 0 where
-  pub first : part_question all_offsets page.one ≡ 0
-  pub second : part_question all_offsets page.two ≡ 0
-  pub places : page.place + places_left page.stage job a b page.one page.two ≤ places_most page.stage
+pub record Ready (job : Job) (a b : Members) (page : Page Stage Records) : Type 0 where
+  pub first : part_question all_offsets page.records.one ≡ 0
+  pub second : part_question all_offsets page.records.two ≡ 0
+  pub places : page.place + places_left page.stage job a b page.records ≤ places_most page.stage
 
 -- from such a page, with names of up to 64 bytes and room for a batch, a piece is whole, and the page after it is such a page
-pub record Able (job : Job) (name other : List ℕ) (a b : Members) (page : Page) (out : List ℕ) : Type 0 where
+pub record Able (job : Job) (name other : List ℕ) (a b : Members) (page : Page Stage Records) (out : List ℕ) : Type 0 where
   pub short : (length name ≤ 64) × (length other ≤ 64)
   pub room : 16384 ≤ length out
   pub ready : Ready job a b page
 
-pub record PieceSure (job : Job) (a b : Members) (r : Piece) : Type 0 where
+pub record PieceSure (job : Job) (a b : Members) (r : Piece Stage Records) : Type 0 where
   pub whole : r.whole ≡ true
   pub ready : Ready job a b r.page
 
 -- a run of pieces that are whole, each from the page that the one before it left, until nothing is left to write: the bytes of each
-pub data Run (job : Job) (name other : List ℕ) (a b : Members) : Page → List (List ℕ) → Type 0 where
-  done : {page : Page} → page.stage ≡ Over → Run job name other a b page []
-  next : {page : Page} (out : List ℕ) (r : Piece) {texts : List (List ℕ)} → r.whole ≡ true → PieceRight job name other a b page out r
+pub data Run (job : Job) (name other : List ℕ) (a b : Members) : Page Stage Records → List (List ℕ) → Type 0 where
+  done : {page : Page Stage Records} → page.stage ≡ Over → Run job name other a b page []
+  next : {page : Page Stage Records} (out : List ℕ) (r : Piece Stage Records) {texts : List (List ℕ)} → r.whole ≡ true → PieceRight job name other a b page out r
       → Run job name other a b r.page texts → Run job name other a b page (take r.length out ∷ texts)

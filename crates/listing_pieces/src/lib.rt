@@ -2,7 +2,7 @@
 #![tactic(auto)]
 
 mod pages;
-mod pairs;
+mod set_pairs;
 mod verdicts;
 
 pub use pages::{first_page, next_piece};

@@ -1,19 +1,19 @@
 ghost use Rattle.std.specs.Prelude.{◌≡◌, Some};
 ghost use Rattle.byte_texts.specs.Growth.{Appended};
-ghost use Rattle.byte_texts.specs.Texts.{written};
 ghost use Rattle.sets.specs.Questions.{both_questions};
 ghost use Rattle.listings.specs.Fills.{filled_of};
 ghost use Rattle.listings.specs.Pages.{all_offsets, offsets_of, first_walk, total_of, last_text, first_page};
-ghost use Rattle.listing_pieces.specs.Pieces.{sizes_of, MissingOf, after_first, page_after, piece_of, PieceRight, Able, PieceSure};
+ghost use Rattle.listing_lines.specs.Pieces.{piece_of};
+ghost use Rattle.listing_pieces.specs.Pieces.{sizes_of, MissingOf, after_first, page_after, PieceRight, Able, PieceSure};
 
-use crate::pairs::Pair;
+use crate::set_pairs::SetPair;
 use byte_texts::Text;
 use listing_lines::{Listing, Missing, Places};
-use listings::{Job, Lines, Page, Stage, Written, fill_walk};
+use listings::{FileWalk, Job, Lines, Page, Stage, Written, fill_walk};
 use sets::FixedBitSet;
 use verdict_lines::{Sizes, Verdict, append_complete, append_count};
 use walks::first_part;
-use whole_walks::Walk;
+use whole_walks::{Records, Walk};
 
 // The page before any line.
 #[tactic(auto, unfolding(listings::specs::Pages::first_page))]
@@ -24,8 +24,10 @@ pub fn first_page(job: Job) -> Page
     let stage = if job.count { Stage::Last } else { Stage::First };
     Page {
         stage,
-        one: part,
-        two: part,
+        records: Records {
+            one: part,
+            two: part,
+        },
         place: 1,
     }
 }
@@ -54,7 +56,7 @@ fn after_first(job: Job) -> Stage
 }
 
 // How many lines there are in all.
-fn total_of(job: Job, pair: Pair<'_>) -> usize
+fn total_of(job: Job, pair: SetPair<'_>) -> usize
     ensures { result ≡ total_of job (offsets_of pair.entry.words.now) (offsets_of pair.entry.other.now) }
 {
     if job.compare {
@@ -63,7 +65,7 @@ fn total_of(job: Job, pair: Pair<'_>) -> usize
     pair.walk_size(job.walk)
 }
 
-fn sizes_of(pair: Pair<'_>) -> Sizes
+fn sizes_of(pair: SetPair<'_>) -> Sizes
     ensures { result ≡ sizes_of (offsets_of pair.entry.words.now) (offsets_of pair.entry.other.now) }
 {
     let swapped = pair.swapped();
@@ -78,21 +80,22 @@ fn sizes_of(pair: Pair<'_>) -> Sizes
 // The page after lines: what is left of their walk, or, where that is nothing, the stage that comes then.
 #[tactic(auto, unfolding(crate::specs::Pieces::page_after))]
 fn page_after(lines: Lines, stage: Stage, then: Stage) -> Page
-    ensures { result ≡ page_after (filled_of lines.one lines.two lines.place (Some lines)) stage then }
+    ensures { result ≡ page_after (filled_of lines.records lines.place (Some lines)) stage then }
 {
     if lines.over {
         let part = first_part(FixedBitSet { length: 65536 });
         return Page {
             stage: then,
-            one: part,
-            two: part,
+            records: Records {
+                one: part,
+                two: part,
+            },
             place: lines.place,
         };
     }
     Page {
         stage,
-        one: lines.one,
-        two: lines.two,
+        records: lines.records,
         place: lines.place,
     }
 }
@@ -119,7 +122,7 @@ fn missing_of<'a>(job: Job, names: Names<'a>) -> Option<Missing<'a>>
 
 fn first_lines(
     job: Job,
-    pair: Pair<'_>,
+    pair: SetPair<'_>,
     names: Names<'_>,
     page: Page,
     out: &mut [u8],
@@ -135,10 +138,12 @@ fn first_lines(
         places,
         missing: missing_of(job, names),
     };
-    let walk = first_walk(job);
-    let Some(lines) = fill_walk(
-        out, walk, pair.words, pair.other, listing, page.one, page.two, page.place,
-    ) else {
+    let walk = FileWalk {
+        walk: first_walk(job),
+        words: pair.words,
+        other: pair.other,
+    };
+    let Some(lines) = fill_walk(out, walk, listing, page.records, page.place) else {
         return None;
     };
     Some(Written {
@@ -149,7 +154,7 @@ fn first_lines(
 
 fn second_lines(
     job: Job,
-    pair: Pair<'_>,
+    pair: SetPair<'_>,
     names: Names<'_>,
     page: Page,
     out: &mut [u8],
@@ -166,16 +171,12 @@ fn second_lines(
         lacks: names.name,
     });
     let listing = Listing { places, missing };
-    let Some(lines) = fill_walk(
-        out,
-        Walk::Difference,
-        pair.other,
-        pair.words,
-        listing,
-        page.one,
-        page.two,
-        page.place,
-    ) else {
+    let walk = FileWalk {
+        walk: Walk::Difference,
+        words: pair.other,
+        other: pair.words,
+    };
+    let Some(lines) = fill_walk(out, walk, listing, page.records, page.place) else {
         return None;
     };
     Some(Written {
@@ -185,7 +186,7 @@ fn second_lines(
 }
 
 // The last line: the verdict, the count alone, or that the list is complete.
-fn append_last(text: &mut Text, job: Job, pair: Pair<'_>, names: Names<'_>)
+fn append_last(text: &mut Text, job: Job, pair: SetPair<'_>, names: Names<'_>)
     ensures { Appended text.old text.new (last_text job names.entry.name.now names.entry.table.now (offsets_of pair.entry.words.now) (offsets_of pair.entry.other.now)) }
 {
     if job.compare {
@@ -203,18 +204,9 @@ fn append_last(text: &mut Text, job: Job, pair: Pair<'_>, names: Names<'_>)
     append_complete(text, size);
 }
 
-// The same at the start of the buffer. Gives where it ends.
-fn put_last(out: &mut [u8], job: Job, pair: Pair<'_>, names: Names<'_>) -> usize
-    ensures { record { end = result; out = out.new } ≡ written out.old 0 (last_text job names.entry.name.now names.entry.table.now (offsets_of pair.entry.words.now) (offsets_of pair.entry.other.now)) }
-{
-    let mut text = Text::new(out);
-    append_last(&mut text, job, pair, names);
-    text.end
-}
-
 fn last_line(
     job: Job,
-    pair: Pair<'_>,
+    pair: SetPair<'_>,
     names: Names<'_>,
     page: Page,
     out: &mut [u8],
@@ -222,16 +214,16 @@ fn last_line(
     requires { page.stage ≡ Stage.Last }
     ensures { PieceRight job names.entry.name.now names.entry.table.now (offsets_of pair.entry.words.now) (offsets_of pair.entry.other.now) page out.new (piece_of page result) × (Able job names.entry.name.now names.entry.table.now (offsets_of pair.entry.words.now) (offsets_of pair.entry.other.now) page out.new → PieceSure job (offsets_of pair.entry.words.now) (offsets_of pair.entry.other.now) (piece_of page result)) }
 {
-    let end = put_last(out, job, pair, names);
-    if out.len() <= end {
+    let mut text = Text::new(out);
+    append_last(&mut text, job, pair, names);
+    if text.out.len() <= text.end {
         return None;
     }
     Some(Written {
-        length: end,
+        length: text.end,
         page: Page {
             stage: Stage::Over,
-            one: page.one,
-            two: page.two,
+            records: page.records,
             place: page.place,
         },
     })
@@ -249,7 +241,7 @@ pub fn next_piece(
 ) -> Option<Written>
     ensures { PieceRight job name.now table.now (offsets_of words.now) (offsets_of other.now) page out.new (piece_of page result) × (both_questions all_offsets words.now all_offsets other.now ≡ 0 → Able job name.now table.now (offsets_of words.now) (offsets_of other.now) page out.new → PieceSure job (offsets_of words.now) (offsets_of other.now) (piece_of page result)) }
 {
-    let Ok(pair) = Pair::new(words, other) else {
+    let Ok(pair) = SetPair::new(words, other) else {
         return None;
     };
     let names = Names { name, table };

@@ -22,7 +22,8 @@ use Rattle.next_many.specs.Rules.{ManyOutcome, written, many, ManyPairOutcome, m
 use Rattle.next_many.specs.declared.answers.NextManyPair.{NextManyPair}
 use Rattle.next_many.proofs.LeftLaws.{pairs-take, pairs-drop, pairs-asked}
 use Rattle.next_many.proofs.ManyLaws.{pairs_alone}
-use Rattle.listings.specs.Fills.{Asked}
+use Rattle.listings.specs.Fills.{Asked, records_of}
+use Rattle.whole_walks.specs.declared.whole.Records.{Records}
 use Rattle.listings.specs.Pages.{all_offsets, walk_left}
 
 -- ---- an accepted call
@@ -55,39 +56,39 @@ module _ (out : List ℕ) (one two : Part) where
 
 -- ---- the questions of a call
 
-module _ {ws vs : List ℕ} {one two : Part} (h : Asked ws vs one two) where
-  pub ones_asked : part_questions all_offsets ws one ≡ 0
+module _ {ws vs : List ℕ} {p : Records} (h : Asked ws vs p) where
+  pub ones_asked : part_questions all_offsets ws p.one ≡ 0
   unfolding both_questions
   ones_asked = sym (first-yes (first-both (questions all_offsets ws) (questions all_offsets vs) h.sets).0 (sym h.first))
 
-  pub two-asked : two_questions all_offsets ws all_offsets vs one ≡ 0
+  pub two-asked : two_questions all_offsets ws all_offsets vs p.one ≡ 0
   two-asked = sym (first-yes h.sets (sym h.first))
 
-  pub pair_asked : pair_questions all_offsets ws all_offsets vs one two ≡ 0
+  pub pair_asked : pair_questions all_offsets ws all_offsets vs p.one p.two ≡ 0
   pair_asked = sym (first-yes h.sets (first-yes h.first (sym h.second)))
 
 -- ---- the next 64 offsets
 
-module _ (walk : Walk) (a b : Members) (one two : Part) where
+module _ (walk : Walk) (a b : Members) (p : Records) where
   pub record Given (after : List ℕ) (r : NextManyPair) : Type 0 where
-    pub counted : r.count ≡ length (take 64 (walk_left walk a b one two))
+    pub counted : r.count ≡ length (take 64 (walk_left walk a b p))
     pub most : r.count ≤ 64
     pub enough : r.count ≤ length after
-    pub offsets : take r.count after ≡ take 64 (walk_left walk a b one two)
-    pub rest : walk_left walk a b r.one r.two ≡ drop 64 (walk_left walk a b one two)
-    pub again : part_question all_offsets one ≡ 0 → part_question all_offsets two ≡ 0 → (part_question all_offsets r.one ≡ 0) × (part_question all_offsets r.two ≡ 0)
+    pub offsets : take r.count after ≡ take 64 (walk_left walk a b p)
+    pub rest : walk_left walk a b (records_of r) ≡ drop 64 (walk_left walk a b p)
+    pub again : part_question all_offsets p.one ≡ 0 → part_question all_offsets p.two ≡ 0 → (part_question all_offsets r.one ≡ 0) × (part_question all_offsets r.two ≡ 0)
 
   pub given_64 : (out : List ℕ) {after : List ℕ} {r : NextManyPair} → length out ≡ 64
-      → many_pair_outcome r after ≡ written_pair out (front_pairs (length out) (first_row walk a b) (second_row walk a b) one two) → Given after r
+      → many_pair_outcome r after ≡ written_pair out (front_pairs (length out) (first_row walk a b) (second_row walk a b) p.one p.two) → Given after r
   unfolding walk_left
   given_64 out {after} {r} n e = record {
     counted = size;
     most = omega (arith, size, length-take 64 left);
     enough = long;
     offsets = ap₂ take count (ap (λ (x : ManyPairOutcome). x.out) e) ∙ take_at m.positions (drop (length m.positions) out) (length m.positions) refl ∙ taken;
-    rest = ap₂ (λ (p q : Part). walk_left walk a b p q) (ap (λ (x : ManyPairOutcome). x.one) e) (ap (λ (x : ManyPairOutcome). x.two) e) ∙ pairs-drop f g (length out) one two ∙ ap (λ (k : ℕ). drop k left) n;
-    again = λ p q.
-        let g = pairs-asked f g all_offsets all_offsets (length out) one two p q in
+    rest = ap₂ (λ (x y : Part). walk_left walk a b (record { one = x; two = y })) (ap (λ (x : ManyPairOutcome). x.one) e) (ap (λ (x : ManyPairOutcome). x.two) e) ∙ pairs-drop f g (length out) p.one p.two ∙ ap (λ (k : ℕ). drop k left) n;
+    again = λ x y.
+        let g = pairs-asked f g all_offsets all_offsets (length out) p.one p.two x y in
         (ap (λ (x : ManyPairOutcome). part_question all_offsets x.one) e ∙ g.0, ap (λ (x : ManyPairOutcome). part_question all_offsets x.two) e ∙ g.1);
   }
     where
@@ -98,16 +99,16 @@ module _ (walk : Walk) (a b : Members) (one two : Part) where
       g = second_row walk a b
 
       left : List ℕ
-      left = walk_left walk a b one two
+      left = walk_left walk a b p
 
       m : ManyPair
-      m = front_pairs (length out) f g one two
+      m = front_pairs (length out) f g p.one p.two
 
       count : r.count ≡ length m.positions
       count = ap (λ (x : ManyPairOutcome). x.count) e
 
       taken : m.positions ≡ take 64 left
-      taken = pairs-take f g (length out) one two ∙ ap (λ (k : ℕ). take k left) n
+      taken = pairs-take f g (length out) p.one p.two ∙ ap (λ (k : ℕ). take k left) n
 
       size : r.count ≡ length (take 64 left)
       size = count ∙ ap length taken
@@ -117,6 +118,6 @@ module _ (walk : Walk) (a b : Members) (one two : Part) where
 
 -- ---- from the first records on, all of the walk's list is left
 
-pub left_all : (walk : Walk) (a b : Members) → Clipped a → Clipped b → walk_left walk a b (first_part (set_of a)) (first_part (set_of b)) ≡ walk_list walk a b
+pub left_all : (walk : Walk) (a b : Members) → Clipped a → Clipped b → walk_left walk a b (record { one = first_part (set_of a); two = first_part (set_of b) }) ≡ walk_list walk a b
 unfolding walk_left
 left_all walk a b ca cb = ap₂ ◌++◌ (left_first a (first_row walk a b)) (left_first b (second_row walk a b)) ∙ (walked walk a b ca cb []).parts

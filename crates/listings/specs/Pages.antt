@@ -1,7 +1,6 @@
 -- What a command writes, from the sets of its files, their names as they are shown, and the options; and what is left of it on the way.
 use Rattle.std.specs.Prelude.{true, false, cond, List, [], ◌++◌, ℕ, ◌+◌, length}
 use Rattle.sets.specs.Members.{Members, read}
-use Rattle.sets.specs.declared.answers.Part.{Part}
 use Rattle.sets.specs.declared.fixed_bit_set.FixedBitSet.{FixedBitSet}
 use Rattle.two_set_counts.specs.Lists.{ones_list, difference_list}
 use Rattle.walks.specs.Rules.{first_part}
@@ -11,7 +10,8 @@ use Rattle.whole_walks.specs.declared.walk.Walk.{Walk}
 use Rattle.whole_walks.specs.declared.walk.Walk.TheVariants.{Difference}
 use Rattle.listing_lines.specs.Lines.{lines_text, complete_text, count_text, verdict_text}
 use Rattle.listings.specs.declared.jobs.Job.{Job}
-use Rattle.listings.specs.declared.jobs.Page.{Page}
+use Rattle.listing_lines.specs.declared.pages.Page.{Page}
+use Rattle.whole_walks.specs.declared.whole.Records.{Records}
 use Rattle.listings.specs.declared.jobs.Stage.{Stage}
 use Rattle.listings.specs.declared.jobs.Stage.TheVariants.{First, Second, Last, Over}
 
@@ -41,9 +41,12 @@ all_offsets = record { length = 65536 }
 abbrev pub offsets_of : List ℕ → Members
 offsets_of ws = read ws all_offsets
 
--- what is left of a walk at its records
-unfoldable pub walk_left : Walk → Members → Members → Part → Part → List ℕ
-walk_left walk a b one two = both_left (first_row walk a b) (second_row walk a b) one two
+-- the records before any step, and what is left of a walk at its records
+abbrev pub first_records : Records
+first_records = record { one = first_part all_offsets; two = first_part all_offsets }
+
+unfoldable pub walk_left : Walk → Members → Members → Records → List ℕ
+walk_left walk a b p = both_left (first_row walk a b) (second_row walk a b) p.one p.two
 
 -- the walk of the first lines, and how many lines there are in all
 unfoldable pub first_walk : Job → Walk
@@ -68,16 +71,16 @@ follow_text job name other a b place = cond job.compare (second_text job name ot
 unfoldable pub first_text : Job → List ℕ → List ℕ → Members → Members → ℕ → List ℕ → List ℕ
 first_text job name other a b place ps = lines_text job.sheet job.compare name other (total_of job a b) place ps ++ follow_text job name other a b (place + length ps)
 
-unfoldable pub stage_text : Stage → Job → List ℕ → List ℕ → Members → Members → Part → Part → ℕ → List ℕ
-stage_text First job name other a b one two place = first_text job name other a b place (walk_left (first_walk job) a b one two)
-stage_text Second job name other a b one two place = second_text job name other a b place (walk_left Difference b a one two)
-stage_text Last job name other a b one two place = last_text job name other a b
-stage_text Over job name other a b one two place = []
+unfoldable pub stage_text : Stage → Job → List ℕ → List ℕ → Members → Members → Records → ℕ → List ℕ
+stage_text First job name other a b p place = first_text job name other a b place (walk_left (first_walk job) a b p)
+stage_text Second job name other a b p place = second_text job name other a b place (walk_left Difference b a p)
+stage_text Last job name other a b p place = last_text job name other a b
+stage_text Over job name other a b p place = []
 
 -- what is left to write on a page
-abbrev pub rest_text : Job → List ℕ → List ℕ → Members → Members → Page → List ℕ
-rest_text job name other a b page = stage_text page.stage job name other a b page.one page.two page.place
+abbrev pub rest_text : Job → List ℕ → List ℕ → Members → Members → Page Stage Records → List ℕ
+rest_text job name other a b page = stage_text page.stage job name other a b page.records page.place
 
 -- the page before any line: the counts alone are the last line
-unfoldable pub first_page : Job → Page
-first_page job = record { stage = cond job.count Last First; one = first_part all_offsets; two = first_part all_offsets; place = 1 }
+unfoldable pub first_page : Job → Page Stage Records
+first_page job = record { stage = cond job.count Last First; records = first_records; place = 1 }

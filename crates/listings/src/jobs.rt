@@ -1,5 +1,8 @@
-use sets::Part;
-use whole_walks::Walk;
+ghost use Rattle.std.specs.Prelude.{◌≡◌};
+ghost use Rattle.listings.specs.Stages.{is_over};
+
+use listing_lines::Progress;
+use whole_walks::{Records, Walk};
 
 // What is written of two files: a comparison, or the list of a walk; on a sheet, or the counts alone; one of several tables.
 #[derive(Clone, Copy)]
@@ -11,7 +14,7 @@ pub struct Job {
     pub several: bool,
 }
 
-// Where the writing stands: the lines of the first walk, those of the second, the last line, or nothing more.
+// Where the writing stands: the lines of the first walk, those of the second, the last line, or nothing more. A list of pairs has one walk, so its stages are other ones.
 #[derive(Clone, Copy)]
 pub enum Stage {
     First,
@@ -20,18 +23,14 @@ pub enum Stage {
     Over,
 }
 
-// What is left to write: the records of the walk, and the place of its next line.
-#[derive(Clone, Copy)]
-pub struct Page {
-    pub stage: Stage,
-    pub one: Part,
-    pub two: Part,
-    pub place: usize,
+impl Progress for Stage {
+    ghost over = { is_over };
+
+    fn is_over(&self) -> bool {
+        matches!(self, Stage::Over)
+    }
 }
 
-// How many bytes of the buffer are the next piece, and what is left then.
-#[derive(Clone, Copy)]
-pub struct Written {
-    pub length: usize,
-    pub page: Page,
-}
+pub type Page = listing_lines::Page<Stage, Records>;
+
+pub type Written = listing_lines::Written<Stage, Records>;

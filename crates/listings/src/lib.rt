@@ -7,3 +7,4 @@ mod walk_steps;
 
 pub use fills::{Lines, fill_walk};
 pub use jobs::{Job, Page, Stage, Written};
+pub use walk_steps::FileWalk;

@@ -3,7 +3,7 @@ ghost use Rattle.whole_walks.specs.Walks.{first_row, second_row};
 ghost use Rattle.next_many.specs.Calls.{next_many_of, next_many_pair_of};
 ghost use Rattle.next_many.specs.Many.{front_pairs};
 ghost use Rattle.next_many.specs.Rules.{many_pair_outcome, written_pair};
-ghost use Rattle.listings.specs.Fills.{Asked};
+ghost use Rattle.listings.specs.Fills.{Asked, given_of};
 ghost use Rattle.listings.specs.Pages.{offsets_of};
 
 use next_many::{
@@ -11,7 +11,7 @@ use next_many::{
     symmetric_difference_next_many, union_next_many,
 };
 use sets::{FixedBitSet, Part, Refusal};
-use whole_walks::Walk;
+use whole_walks::{Records, Walk};
 
 // A walk of one part: the second record passes through.
 fn alone(many: Result<Many, Refusal>, two: Part) -> Result<ManyPair, Refusal>
@@ -25,31 +25,40 @@ fn alone(many: Result<Many, Refusal>, two: Part) -> Result<ManyPair, Refusal>
     })
 }
 
-// The next offsets of a walk over two sets of 65,536 bits, as many as the buffer has words.
-pub(crate) fn walk_next_many(
-    walk: Walk,
-    words: &[u64],
-    other: &[u64],
-    one: Part,
-    two: Part,
-    offsets: &mut [u64],
-) -> Result<ManyPair, Refusal>
-    ensures { ((next_many_pair_of one two result).number ≡ 0 → many_pair_outcome (next_many_pair_of one two result) offsets.new ≡ written_pair offsets.old (front_pairs (length offsets.old) (first_row walk (offsets_of words.now) (offsets_of other.now)) (second_row walk (offsets_of words.now) (offsets_of other.now)) one two)) × (Asked words.now other.now one two → (next_many_pair_of one two result).number ≡ 0) }
-{
-    let set = FixedBitSet { length: 65536 };
-    match walk {
-        Walk::Ones => alone(ones_next_many(set, words, one, offsets), two),
-        Walk::Intersection => alone(
-            intersection_next_many(set, words, set, other, one, offsets),
-            two,
-        ),
-        Walk::Difference => alone(
-            difference_next_many(set, words, set, other, one, offsets),
-            two,
-        ),
-        Walk::Union => union_next_many(set, words, set, other, one, two, offsets),
-        Walk::SymmetricDifference => {
-            symmetric_difference_next_many(set, words, set, other, one, two, offsets)
+// A walk over the sets of two files, each by its words.
+#[derive(Clone, Copy)]
+pub struct FileWalk<'a> {
+    pub walk: Walk,
+    pub words: &'a [u64],
+    pub other: &'a [u64],
+}
+
+impl<'a> FileWalk<'a> {
+    // The next offsets, as many as the buffer has words.
+    pub(crate) fn next_many(
+        self,
+        records: Records,
+        offsets: &mut [u64],
+    ) -> Result<ManyPair, Refusal>
+        ensures { ((given_of records result).number ≡ 0 → many_pair_outcome (given_of records result) offsets.new ≡ written_pair offsets.old (front_pairs (length offsets.old) (first_row self.entry.walk (offsets_of self.entry.words.now) (offsets_of self.entry.other.now)) (second_row self.entry.walk (offsets_of self.entry.words.now) (offsets_of self.entry.other.now)) records.one records.two)) × (Asked self.entry.words.now self.entry.other.now records → (given_of records result).number ≡ 0) }
+    {
+        let FileWalk { walk, words, other } = self;
+        let Records { one, two } = records;
+        let set = FixedBitSet { length: 65536 };
+        match walk {
+            Walk::Ones => alone(ones_next_many(set, words, one, offsets), two),
+            Walk::Intersection => alone(
+                intersection_next_many(set, words, set, other, one, offsets),
+                two,
+            ),
+            Walk::Difference => alone(
+                difference_next_many(set, words, set, other, one, offsets),
+                two,
+            ),
+            Walk::Union => union_next_many(set, words, set, other, one, two, offsets),
+            Walk::SymmetricDifference => {
+                symmetric_difference_next_many(set, words, set, other, one, two, offsets)
+            }
         }
     }
 }

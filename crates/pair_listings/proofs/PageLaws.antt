@@ -10,9 +10,11 @@ use lib.Seq.{length-take-le}
 use Rattle.sets.specs.Members.{Members}
 use Rattle.pair_listings.specs.Tables.{offsets_of}
 use Rattle.pair_listings.specs.Pages.{pairs_text, lines_text, stage_text, rest_text, first_page}
-use Rattle.pair_listings.specs.Pieces.{Piece, stage_number, PieceRight, work_left, Ready, Run, done, next}
+use Rattle.pair_listings.specs.Pieces.{stage_number, PieceRight, work_left, Ready, Run, done, next}
+use Rattle.listing_lines.specs.Pieces.{Piece}
 use Rattle.pair_listings.specs.declared.jobs.Job.{Job}
-use Rattle.pair_listings.specs.declared.jobs.Page.{Page}
+use Rattle.listing_lines.specs.declared.pages.Page.{Page}
+use Rattle.sets.specs.declared.answers.Part.{Part}
 use Rattle.pair_listings.specs.declared.jobs.Stage.{Stage}
 use Rattle.pair_listings.proofs.WalkLaws.{all_left, few, first-asked}
 
@@ -35,9 +37,9 @@ module _ (job : Job) (table : ℕ → ℕ) (ws : List ℕ) where
 
   -- ---- a run
 
-  pub run_is : {page : Page} {texts : List (List ℕ)} → Run job table s page texts → flatten texts ≡ rest_text job table s page
+  pub run_is : {page : Page Stage Part} {texts : List (List ℕ)} → Run job table s page texts → flatten texts ≡ rest_text job table s page
   unfolding flatten stage_text
-  run_is {page} (done e) = sym (ap (λ (x : Stage). stage_text x job table s page.part page.place) e)
+  run_is {page} (done e) = sym (ap (λ (x : Stage). stage_text x job table s page.records page.place) e)
   run_is (next out r w h rest) = ap (λ (t : List ℕ). take r.length out ++ t) (run_is rest) ∙ h.text w
 
   -- pieces that are whole, each from the page that the one before it left, from the first page on until nothing is left to write: joined, they are all that is written
@@ -45,7 +47,7 @@ module _ (job : Job) (table : ℕ → ℕ) (ws : List ℕ) where
   pieces_are run = run_is run ∙ first_is
 
   -- each piece leaves less to do, so that a run ends
-  pub piece_less : {page : Page} {out : List ℕ} {r : Piece} → PieceRight job table s page out r → r.whole ≡ true → stage_number page.stage < 2 → work_left job table s r.page < work_left job table s page
+  pub piece_less : {page : Page Stage Part} {out : List ℕ} {r : Piece Stage Part} → PieceRight job table s page out r → r.whole ≡ true → stage_number page.stage < 2 → work_left job table s r.page < work_left job table s page
   piece_less {page} {out} {r} h w i = go (h.moves w i)
     where
       sizes : r.length + length (rest_text job table s r.page) ≡ length (rest_text job table s page)

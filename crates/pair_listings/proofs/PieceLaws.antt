@@ -10,8 +10,9 @@ use borrow.Author.Tests.{lt-ltb, le-ltb}
 use lib.Dec.{ltb}
 use lib.ListN.{length, take, drop, length-take, length-drop, take-append-drop}
 use Rattle.word_bits.proofs.Order.{lt-or-le}
-use Rattle.byte_texts.specs.Texts.{Written, written}
-use Rattle.byte_texts.proofs.TextLaws.{written_same, written_room, written-whole, written_end}
+use Rattle.byte_texts.specs.Growth.{Appended}
+use Rattle.byte_texts.specs.declared.texts.Text.{Text}
+use Rattle.byte_texts.proofs.GrowthLaws.{appended_as, appended_same, appended_room, appended_end, appended_whole}
 use Rattle.std.specs.Prelude.{None}
 use Rattle.sets.specs.Members.{Members}
 use Rattle.two_set_counts.specs.Lists.{ones_list}
@@ -21,35 +22,22 @@ use Rattle.next_many.specs.declared.answers.NextMany.{NextMany}
 use Rattle.pair_listings.specs.Tables.{offsets_of}
 use Rattle.pair_listings.specs.Lines.{pair_lines_text, pairs_complete_text}
 use Rattle.pair_listings.specs.Pages.{last_text, lines_text, members_left, stage_text, rest_text}
-use Rattle.pair_listings.specs.Pieces.{Piece, stage_number, page_after, piece_of, PieceRight, Ready, Able, PieceSure}
+use Rattle.listing_lines.specs.Pieces.{Piece, piece_of}
+use Rattle.pair_listings.specs.Pieces.{stage_number, page_after, PieceRight, Ready, Able, PieceSure}
 use Rattle.pair_listings.specs.declared.jobs.Job.{Job}
-use Rattle.pair_listings.specs.declared.jobs.Page.{Page}
+use Rattle.listing_lines.specs.declared.pages.Page.{Page}
+use Rattle.sets.specs.declared.answers.Part.{Part}
 use Rattle.pair_listings.specs.declared.jobs.Stage.{Stage}
 use Rattle.pair_listings.specs.declared.jobs.Stage.TheVariants.{Lines, Last, Over}
 use Rattle.pair_listings.proofs.LengthLaws.{lines_most, lines-least, complete_most}
 use Rattle.pair_listings.proofs.LineLaws.{lines-append}
 use Rattle.pair_listings.proofs.WalkLaws.{Given}
 
--- a text at the buffer's start that ends before the buffer does
-module _ (before text : List ℕ) {out : List ℕ} {end : ℕ} (d : record { end = end; out = out } ≡ written before 0 text) (l : end < length before) where
-  text_whole : take end out ≡ text
-  text_whole =
-      let stop = ap (λ (w : Written). w.end) d in
-      ap (λ (w : Written). take w.end w.out) d ∙ written-whole before 0 text (written_room before 0 text (omega (arith, stop)))
-
-  text_fits : end ≤ length out
-  text_fits = omega (arith, written_same before 0 text d)
-
-  text_end : end ≡ length text
-  text_end =
-      let stop = ap (λ (w : Written). w.end) d in
-      omega (arith, stop, written_end before 0 text (written_room before 0 text (omega (arith, stop))))
-
-module _ (job : Job) (table : ℕ → ℕ) (ws : List ℕ) (page : Page) where
+module _ (job : Job) (table : ℕ → ℕ) (ws : List ℕ) (page : Page Stage Part) where
   abbrev s : Members
   s = offsets_of ws
 
-  abbrev PieceWell : List ℕ → Piece → Type 0
+  abbrev PieceWell : List ℕ → Piece Stage Part → Type 0
   PieceWell out r = PieceRight job table s page out r × (Able s page out → PieceSure s r)
 
   -- ---- a piece that is not whole, which no page that is ready comes to
@@ -62,9 +50,9 @@ module _ (job : Job) (table : ℕ → ℕ) (ws : List ℕ) (page : Page) where
 
   -- ---- lines
 
-  module _ {after : List ℕ} {r : NextMany} (g : Given ws page.part after r) where
+  module _ {offsets : List ℕ} {r : NextMany} (g : Given ws page.records offsets r) where
     abbrev left : List ℕ
-    left = members_left s page.part
+    left = members_left s page.records
 
     abbrev total : ℕ
     total = length (ones_list s)
@@ -72,7 +60,7 @@ module _ (job : Job) (table : ℕ → ℕ) (ws : List ℕ) (page : Page) where
     abbrev lines : ℕ → List ℕ → List ℕ
     lines place ps = pair_lines_text job.sheet total place table ps
 
-    abbrev next : Page
+    abbrev next : Page Stage Part
     next = page_after r.part (page.place + r.count) r.count
 
     sizes : (r.count ≡ min 128 (length left)) × (length (members_left s r.part) ≡ length left - 128)
@@ -107,37 +95,41 @@ module _ (job : Job) (table : ℕ → ℕ) (ws : List ℕ) (page : Page) where
         ap (λ (k : ℕ). lines page.place (take 128 left) ++ lines (page.place + k) (drop 128 left)) g.counted
         ∙ sym (lines-append job.sheet total table (take 128 left) (drop 128 left) page.place) ∙ ap (lines page.place) (take-append-drop 128 left)
 
-    module _ (before : List ℕ) {out : List ℕ} {end n : ℕ} (size : n ≡ total)
-        (d : record { end = end; out = out } ≡ written before 0 (pair_lines_text job.sheet n page.place table (take r.count after))) where
-      put : record { end = end; out = out } ≡ written before 0 (lines page.place (take 128 left))
-      put = d ∙ ap₂ (λ (k : ℕ) (ps : List ℕ). written before 0 (pair_lines_text job.sheet k page.place table ps)) size g.offsets
+    module _ {before after : Text} {n : ℕ} (size : n ≡ total) (empty : before.end ≡ 0) (d : Appended before after (pair_lines_text job.sheet n page.place table (take r.count offsets))) where
+      put : Appended before after (lines page.place (take 128 left))
+      put = appended_as d (ap₂ (λ (k : ℕ) (ps : List ℕ). pair_lines_text job.sheet k page.place table ps) size g.offsets)
 
-      pub lines_room : 16384 ≤ length before → end < length before
-      unfolding written
-      lines_room m =
+      pub lines_room : {out : List ℕ} → out ≡ after.out.now → 16384 ≤ length out → after.end < length after.out.now
+      lines_room o m =
           let t = lines_most job.sheet total table (take 128 left) page.place in
-          omega (arith, t, ap (λ (w : Written). w.end) put, length-take 128 left)
+          let few : length (lines page.place (take 128 left)) ≤ 10752 = omega (arith, t, length-take 128 left) in
+          let e = ap length o in
+          omega (arith, e, few, appended_end put empty (omega (arith, e, few, appended_same put empty)))
 
-      pub lines_piece : page.stage ≡ Lines → end < length before → {p : Page} → p ≡ next → PieceWell out (record { length = end; page = p; whole = true })
-      lines_piece e l f = subst⁻¹ (λ (p : Page). PieceWell out (record { length = end; page = p; whole = true })) f (
+      pub lines_piece : {out : List ℕ} → out ≡ after.out.now → page.stage ≡ Lines → after.end < length after.out.now → {p : Page Stage Part} → p ≡ next
+          → PieceWell out (record { length = after.end; page = p; whole = true })
+      lines_piece o e l {p} f = subst⁻¹ (λ (xs : List ℕ). PieceWell xs (record { length = after.end; page = p; whole = true })) o (subst⁻¹ (λ (p : Page Stage Part). PieceWell after.out.now (record { length = after.end; page = p; whole = true })) f (
         record {
-          fits = text_fits before (lines page.place (take 128 left)) put l;
+          fits = omega arith;
           text = λ w.
-              ap₂ ◌++◌ (text_whole before (lines page.place (take 128 left)) put l) rest_is
+              ap₂ ◌++◌ (appended_whole put empty room) rest_is
               ∙ sym (append_assoc (lines page.place (take 128 left)) (lines (page.place + r.count) (drop 128 left)) (last_text job s))
               ∙ ap (λ (t : List ℕ). t ++ last_text job s) split ∙ here;
           later = λ w. subst⁻¹ (λ (x : Stage). stage_number x ≤ stage_number next.stage) e (omega arith);
-          moves = λ w i. subst⁻¹ (λ (x : Stage). (0 < end) ⊎ (stage_number x < stage_number next.stage)) e (on (lt-or-le r.count 128));
+          moves = λ w i. subst⁻¹ (λ (x : Stage). (0 < after.end) ⊎ (stage_number x < stage_number next.stage)) e (on (lt-or-le r.count 128));
         },
         λ a. record { whole = refl; ready = ready a.ready },
-      )
+      ))
         where
-          here : lines page.place left ++ last_text job s ≡ rest_text job table s page
-          here = unfold stage_text lines_text in sym (ap (λ (x : Stage). stage_text x job table s page.part page.place) e)
+          room : length (lines page.place (take 128 left)) ≤ length before.out.now
+          room = appended_room put empty l
 
-          on : (r.count < 128) ⊎ (128 ≤ r.count) → (0 < end) ⊎ (0 < stage_number next.stage)
+          here : lines page.place left ++ last_text job s ≡ rest_text job table s page
+          here = unfold stage_text lines_text in sym (ap (λ (x : Stage). stage_text x job table s page.records page.place) e)
+
+          on : (r.count < 128) ⊎ (128 ≤ r.count) → (0 < after.end) ⊎ (0 < stage_number next.stage)
           on (inl b) = unfold page_after in inr (subst⁻¹ (λ (t : Bool). 0 < stage_number (cond t Last Lines)) (lt-ltb r.count 128 b) (omega arith))
-          on (inr m) = inl (omega (arith, text_end before (lines page.place (take 128 left)) put l, lines-least job.sheet total table (take 128 left) page.place, g.counted))
+          on (inr m) = inl (omega (arith, appended_end put empty room, lines-least job.sheet total table (take 128 left) page.place, g.counted))
 
           ready : Ready s page → Ready s next
           ready h = unfold page_after in record { asked = g.again h.asked; places = omega (arith, h.places, sizes.0, sizes.1) }
@@ -152,17 +144,17 @@ module _ (job : Job) (table : ℕ → ℕ) (ws : List ℕ) (page : Page) where
       go true = omega (arith, count_most (length (ones_list s)))
       go false = complete_most (length (ones_list s))
 
-  module _ (before : List ℕ) {out : List ℕ} {end : ℕ} (d : record { end = end; out = out } ≡ written before 0 (last_text job s)) where
-    pub last_room : 16384 ≤ length before → end < length before
-    unfolding written
-    last_room m = omega (arith, last_most, ap (λ (w : Written). w.end) d)
+  module _ {before after : Text} (d : Appended before after (last_text job s)) (empty : before.end ≡ 0) where
+    pub last_room : {out : List ℕ} → out ≡ after.out.now → 16384 ≤ length out → after.end < length after.out.now
+    last_room o m = let e = ap length o in omega (arith, e, last_most, appended_end d empty (omega (arith, e, last_most, appended_same d empty)))
 
-    pub last_piece : page.stage ≡ Last → end < length before → PieceWell out (record { length = end; page = record { stage = Over; part = page.part; place = page.place }; whole = true })
+    pub last_piece : {out : List ℕ} → out ≡ after.out.now → page.stage ≡ Last → after.end < length after.out.now
+        → PieceWell out (record { length = after.end; page = record { stage = Over; records = page.records; place = page.place }; whole = true })
     unfolding stage_text
-    last_piece e l = (
+    last_piece o e l = subst⁻¹ (λ (xs : List ℕ). PieceWell xs (record { length = after.end; page = record { stage = Over; records = page.records; place = page.place }; whole = true })) o (
       record {
-        fits = text_fits before (last_text job s) d l;
-        text = λ w. append-nil (take end out) ∙ text_whole before (last_text job s) d l ∙ sym (ap (λ (x : Stage). stage_text x job table s page.part page.place) e);
+        fits = omega arith;
+        text = λ w. append-nil (take after.end after.out.now) ∙ appended_whole d empty (appended_room d empty l) ∙ sym (ap (λ (x : Stage). stage_text x job table s page.records page.place) e);
         later = λ w. subst⁻¹ (λ (x : Stage). stage_number x ≤ 2) e (omega arith);
         moves = λ w i. inr (subst⁻¹ (λ (x : Stage). stage_number x < 2) e (omega arith));
       },

@@ -9,7 +9,7 @@ use Rattle.listing_lines.specs.Lines.{count_text}
 use Rattle.pair_listings.specs.Tables.{all_offsets}
 use Rattle.pair_listings.specs.Lines.{pair_lines_text, pairs_complete_text}
 use Rattle.pair_listings.specs.declared.jobs.Job.{Job}
-use Rattle.pair_listings.specs.declared.jobs.Page.{Page}
+use Rattle.listing_lines.specs.declared.pages.Page.{Page}
 use Rattle.pair_listings.specs.declared.jobs.Stage.{Stage}
 use Rattle.pair_listings.specs.declared.jobs.Stage.TheVariants.{Lines, Last, Over}
 
@@ -37,9 +37,9 @@ stage_text Last job table s part place = last_text job s
 stage_text Over job table s part place = []
 
 -- what is left to write on a page
-abbrev pub rest_text : Job → (ℕ → ℕ) → Members → Page → List ℕ
-rest_text job table s page = stage_text page.stage job table s page.part page.place
+abbrev pub rest_text : Job → (ℕ → ℕ) → Members → Page Stage Part → List ℕ
+rest_text job table s page = stage_text page.stage job table s page.records page.place
 
 -- the page before any line: the count alone is the last line
-unfoldable pub first_page : Job → Page
-first_page job = record { stage = cond job.count Last Lines; part = first_part all_offsets; place = 1 }
+unfoldable pub first_page : Job → Page Stage Part
+first_page job = record { stage = cond job.count Last Lines; records = first_part all_offsets; place = 1 }

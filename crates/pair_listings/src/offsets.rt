@@ -7,7 +7,7 @@ ghost use Rattle.pair_listings.specs.Tables.{all_offsets, offsets_of};
 use sets::{FixedBitSet, Refusal};
 use whole_walks::{Walk, walk_count};
 
-// The words of a set of 65,536 bits that passes questions 1 to 3.
+// The words of a set of 65,536 bits that passes questions 1 to 3. A listing has two sets (listing_pieces), and as such a pair this one would be asked twice.
 #[derive(Clone, Copy)]
 pub(crate) struct Offsets<'a> {
     pub words: &'a [u64],

@@ -1,11 +1,10 @@
-ghost use Rattle.std.specs.Prelude.{◌≡◌, ◌+◌, ◌^◌, ◌<◌, length};
+ghost use Rattle.std.specs.Prelude.{◌≡◌};
 ghost use Rattle.byte_texts.specs.Growth.{Appended};
-ghost use Rattle.byte_texts.specs.Texts.{written};
 ghost use Rattle.sets.specs.Questions.{questions};
 ghost use Rattle.pair_listings.specs.Tables.{all_offsets, offsets_of, entry_of};
-ghost use Rattle.pair_listings.specs.Lines.{pair_lines_text};
 ghost use Rattle.pair_listings.specs.Pages.{last_text, first_page};
-ghost use Rattle.pair_listings.specs.Pieces.{page_after, piece_of, PieceRight, Able, PieceSure};
+ghost use Rattle.listing_lines.specs.Pieces.{piece_of};
+ghost use Rattle.pair_listings.specs.Pieces.{page_after, PieceRight, Able, PieceSure};
 
 use crate::jobs::{Job, Page, Stage, Written};
 use crate::lines::{append_pair_lines, append_pairs_complete};
@@ -25,7 +24,7 @@ pub fn first_page(job: Job) -> Page
     let stage = if job.count { Stage::Last } else { Stage::Lines };
     Page {
         stage,
-        part: first_part(FixedBitSet { length: 65536 }),
+        records: first_part(FixedBitSet { length: 65536 }),
         place: 1,
     }
 }
@@ -40,16 +39,11 @@ fn page_after(part: Part, place: usize, count: usize) -> Page
     } else {
         Stage::Lines
     };
-    Page { stage, part, place }
-}
-
-// The lines of some offsets at the start of the buffer. Gives where they end.
-fn put_lines(out: &mut [u8], offsets: &[u64], table: &[u64], places: Places, place: usize) -> usize
-    ensures { place + length offsets.now < 2 ^ 64 → record { end = result; out = out.new } ≡ written out.old 0 (pair_lines_text places.sheet places.total place (entry_of table.now) offsets.now) }
-{
-    let mut text = Text::new(out);
-    append_pair_lines(&mut text, offsets, table, places, place);
-    text.end
+    Page {
+        stage,
+        records: part,
+        place,
+    }
 }
 
 // The next 128 lines, or those that are left.
@@ -69,18 +63,19 @@ fn next_lines(
     };
     let mut offsets = [0u64; 128];
     let all = FixedBitSet { length: 65536 };
-    let Ok(many) = ones_next_many(all, set.words, page.part, &mut offsets) else {
+    let Ok(many) = ones_next_many(all, set.words, page.records, &mut offsets) else {
         return None;
     };
     if 4294967296 < page.place {
         return None;
     }
-    let end = put_lines(out, &offsets[..many.count], table, places, page.place);
-    if out.len() <= end {
+    let mut text = Text::new(out);
+    append_pair_lines(&mut text, &offsets[..many.count], table, places, page.place);
+    if text.out.len() <= text.end {
         return None;
     }
     Some(Written {
-        length: end,
+        length: text.end,
         page: page_after(many.part, page.place + many.count, many.count),
     })
 }
@@ -97,15 +92,6 @@ fn append_last(text: &mut Text, job: Job, set: Offsets<'_>)
     }
 }
 
-// The same at the start of the buffer. Gives where it ends.
-fn put_last(out: &mut [u8], job: Job, set: Offsets<'_>) -> usize
-    ensures { record { end = result; out = out.new } ≡ written out.old 0 (last_text job (offsets_of set.entry.words.now)) }
-{
-    let mut text = Text::new(out);
-    append_last(&mut text, job, set);
-    text.end
-}
-
 fn last_line(
     job: Job,
     set: Offsets<'_>,
@@ -116,15 +102,16 @@ fn last_line(
     requires { page.stage ≡ Stage.Last }
     ensures { PieceRight job (entry_of table.now) (offsets_of set.entry.words.now) page out.new (piece_of page result) × (Able (offsets_of set.entry.words.now) page out.new → PieceSure (offsets_of set.entry.words.now) (piece_of page result)) }
 {
-    let end = put_last(out, job, set);
-    if out.len() <= end {
+    let mut text = Text::new(out);
+    append_last(&mut text, job, set);
+    if text.out.len() <= text.end {
         return None;
     }
     Some(Written {
-        length: end,
+        length: text.end,
         page: Page {
             stage: Stage::Over,
-            part: page.part,
+            records: page.records,
             place: page.place,
         },
     })

@@ -14,4 +14,4 @@ pub use messages::{Fragment, Trouble, fail, incomplete, not_listed, tell};
 pub use offset_loading::load;
 pub use pair_loading::load_pairs;
 pub use parts::part;
-pub use streams::{Step, write_pieces, write_whole};
+pub use streams::{write_pieces, write_whole};

@@ -3,6 +3,7 @@ ghost use Rattle.std.specs.Io.KnownBytes.{Appends};
 
 use crate::messages::{Trouble, incomplete, not_listed};
 use crate::parts::part;
+use listing_lines::{Page, Progress, Written};
 use std::io::Write;
 
 // Writes all of the bytes to the standard output.
@@ -17,35 +18,28 @@ pub fn write_whole<W: Write, E: Write>(
         .map_err(|error| incomplete(err, &error))
 }
 
-// How many bytes of a buffer are a piece of what is written, and the page that is left then, none where that is all.
-#[derive(Clone, Copy)]
-pub struct Step<P> {
-    pub length: usize,
-    pub left: Option<P>,
-}
-
 // Writes the pieces that `next_piece` makes of one page after the other. The limit is never reached: a proved loop has to end.
-pub fn write_pieces<P: Copy, N, W: Write, E: Write>(
-    first: P,
+pub fn write_pieces<S: Progress + Copy, R: Copy, N, W: Write, E: Write>(
+    first: Page<S, R>,
     next_piece: N,
     out: &mut W,
     err: &mut E,
 ) -> Result<(), Trouble>
 where
-    N: Fn(P, &mut [u8]) -> Option<Step<P>>,
+    N: Fn(Page<S, R>, &mut [u8]) -> Option<Written<S, R>>,
     requires { N.IsAlwaysCallable next_piece }
 {
     let mut buffer = [0u8; 65536];
     let mut page = first;
     for _ in 0..1000000 {
-        let Some(step) = next_piece(page, &mut buffer) else {
+        let Some(piece) = next_piece(page, &mut buffer) else {
             break;
         };
-        write_whole(out, part(&buffer, 0, step.length), err)?;
-        match step.left {
-            Some(left) => page = left,
-            None => return Ok(()),
+        write_whole(out, part(&buffer, 0, piece.length), err)?;
+        if piece.page.stage.is_over() {
+            return Ok(());
         }
+        page = piece.page;
     }
     Err(not_listed(err))
 }

@@ -1,6 +1,6 @@
-use pair_listings::{Job, Stage, first_page, named_set, next_piece};
+use pair_listings::{Job, first_page, named_set, next_piece};
 use std::io::Write;
-use tool_files::{Step, Trouble, not_listed, write_pieces};
+use tool_files::{Trouble, not_listed, write_pieces};
 
 // Writes the pair of each member of a set by a table.
 pub fn write_pairs<W: Write, E: Write>(
@@ -12,14 +12,7 @@ pub fn write_pairs<W: Write, E: Write>(
 ) -> Result<(), Trouble> {
     write_pieces(
         first_page(job),
-        |page, buffer| {
-            let piece = next_piece(job, words, table, page, buffer)?;
-            let over = matches!(piece.page.stage, Stage::Over);
-            Some(Step {
-                length: piece.length,
-                left: (!over).then_some(piece.page),
-            })
-        },
+        |page, buffer| next_piece(job, words, table, page, buffer),
         out,
         err,
     )

@@ -7,4 +7,4 @@ mod whole;
 
 pub use walk::Walk;
 pub use walk_counts::walk_count;
-pub use whole::walk_whole;
+pub use whole::{Records, walk_whole};

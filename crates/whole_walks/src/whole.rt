@@ -43,11 +43,11 @@ fn left_of(at: Option<usize>, part: Part) -> Part
     }
 }
 
-// The records of both parts.
+// The records of both parts of a walk; a walk of one part goes by the first.
 #[derive(Clone, Copy)]
-struct Records {
-    one: Part,
-    two: Part,
+pub struct Records {
+    pub one: Part,
+    pub two: Part,
 }
 
 impl Records {

@@ -8,10 +8,10 @@ pub returns-in_default : goal.returns-in_default
 returns-in_default c = (
   no_piece _ _ _ _ _,
   λ x.
-      let r = first_piece _ _ _ _ _ c.args.pair.sound refl c.total_of.ensures c.missing_of.ensures c.first_walk-walk.ensures c.in_default.ensures c.requires refl refl in
+      let r = first_piece _ _ _ _ _ c.args.pair.sound refl c.total_of.ensures c.missing_of.ensures c.first_walk.ensures c.in_default.ensures c.requires refl refl in
       absurd (false≢true (r.1 x).whole),
 )
 
 pub returns : goal.returns
 returns c =
-    first_piece _ _ _ _ _ c.args.pair.sound refl c.total_of.ensures c.missing_of.ensures c.first_walk-walk.ensures c.in-Some.ensures c.requires c.after_first.ensures c.page_after.ensures
+    first_piece _ _ _ _ _ c.args.pair.sound refl c.total_of.ensures c.missing_of.ensures c.first_walk.ensures c.in-Some.ensures c.requires c.after_first.ensures c.page_after.ensures

@@ -1,61 +1,62 @@
-use mathlib.Core.Path.{refl}
+use borrow.Author.Rules.{rules}
+use mathlib.Core.Path.{refl, ap, ◌∙◌}
 use Prim.Native.Nat.{◌+◌}
 use native.Mathlib.Omega.{arith}
 use lib.ListN.{length}
-use Rattle.std.specs.Prelude.{Ok}
 use Rattle.sets.proofs.RefusalLaws.{number_ne0}
-use Rattle.listings.specs.Fills.{batch_of, BatchRight}
+use Rattle.next_many.specs.Calls.{accepted_pair}
+use Rattle.listings.specs.Fills.{records_of, BatchRight}
 use Rattle.listings.specs.Pages.{offsets_of}
 use Rattle.listings.proofs.FillLaws.{Filling, filling_start, filling_more, filling_over, filling_stop, unfilled, sure_place, sure_room, batch_most, batch_last, batch_less}
 use Rattle.listings.proofs.fills.fill_walk.Goals as goal
-use Rattle.listings.proofs.fills.fill_walk.Goals.{In-Ok, Else-size-at}
+use Rattle.listings.proofs.fills.fill_walk.Goals.{In-Ok, Else-size-text}
 
 -- the batch of a turn
 known : (c : In-Ok)
     → let a = c.args in
-    BatchRight a.walk a.listing (offsets_of a.words.now) (offsets_of a.other.now) c.loop-at.first c.loop-at.second c.loop-at.next c.loop-at.at
-    c.loop-at.out c.append_batch.new.out (batch_of c.loop-at.first c.loop-at.second c.loop-at.at (Ok c.in-Ok.batch))
-known c = c.in-Ok.ensures.0 refl
+    BatchRight a.walk.walk a.listing (offsets_of a.walk.words.now) (offsets_of a.walk.other.now) c.loop-text.left c.loop-text.next c.loop-text.text
+    c.append_batch.new.text (accepted_pair c.in-Ok.many)
+known c = c.in-Ok.ensures.right refl
 
-more : (c : Else-size-at)
+more : (c : Else-size-text)
     → let a = c.args in
-    let r = c.in-Ok.batch in
-    Filling a.walk a.listing a.words.now a.other.now a.one a.two a.place (length a.out.now)
-    c.append_batch.new.out r.many.one r.many.two (c.loop-at.next + r.many.count) r.end
-more c = filling_more _ _ _ _ _ _ _ _ c.loop-at.invariant (c.in-Ok.ensures.0 refl) c.in-Ok.ensures.1 c.if-size-at.false
+    Filling a.walk.walk a.listing a.walk.words.now a.walk.other.now a.records a.place (length a.out.now)
+    c.append_batch.new.text (records_of (accepted_pair c.in-Ok.many)) (c.loop-text.next + c.in-Ok.many.count)
+more c = filling_more _ _ _ _ _ _ _ c.loop-text.invariant.0 (c.in-Ok.ensures.right refl) c.in-Ok.ensures.sure c.if-size-text.false
 
-pub loop-at-init : goal.loop-at-init
-loop-at-init c = filling_start _ _ _ _ _ _ _ _ refl
+pub loop-text-init : goal.loop-text-init
+loop-text-init c = (filling_start _ _ _ _ _ _ _ c.new-text.ensures.empty (ap length c.new-text.ensures.same_bytes), refl)
 
 pub overflow_sub-size : goal.overflow_sub-size
-overflow_sub-size c = c.loop-at.invariant.inside
+overflow_sub-size c = c.loop-text.invariant.0.inside
 
 pub returns-then-next-gt4294967296 : goal.returns-then-next-gt4294967296
 returns-then-next-gt4294967296 c =
-    let h = c.loop-at.invariant in
-    unfilled _ _ _ _ _ _ _ 0 (λ s. omega (arith, c.if-next-gt4294967296.true, sure_place _ _ _ _ _ _ _ _ h s))
+    let h = c.loop-text.invariant.0 in
+    unfilled _ _ _ _ _ _ 0 (λ s. omega (arith, c.if-next-gt4294967296.true, sure_place _ _ _ _ _ _ _ h s))
 
 pub returns-in_default : goal.returns-in_default
 returns-in_default c =
-    unfilled _ _ _ _ _ _ _ 0 (λ s. number_ne0 _ (c.in_default.ensures.1 (c.loop-at.invariant.asked s)).accepted)
+    unfilled _ _ _ _ _ _ 0 (λ s. number_ne0 _ (c.in_default.ensures.sure (c.loop-text.invariant.0.asked s)).accepted)
 
-pub returns-then-size-at : goal.returns-then-size-at
-returns-then-size-at c =
-    unfilled _ _ _ _ _ _ _ 0
-    (λ s. omega (arith, c.if-size-at.true, sure_room _ _ _ _ _ _ _ _ c.loop-at.invariant (known (goal.at.returns-then-size-at c).In-Ok) c.loop-at-test.true s))
+pub returns-then-size-text : goal.returns-then-size-text
+returns-then-size-text c =
+    unfilled _ _ _ _ _ _ 0
+    (λ s. omega (arith, c.if-size-text.true, sure_room _ _ _ _ _ _ _ c.loop-text.invariant.0 (known (goal.at.returns-then-size-text c).In-Ok) c.loop-text-test.true s))
 
 pub overflow_add-next : goal.overflow_add-next
 overflow_add-next c = omega (arith, batch_most _ _ _ _ (known (goal.at.overflow_add-next c).In-Ok), c.if-next-gt4294967296.false)
 
-pub returns-then-count-lt64 : goal.returns-then-count-lt64
-returns-then-count-lt64 c =
-    filling_over _ _ _ _ _ _ _ _ (more (goal.at.returns-then-count-lt64 c).Else-size-at) (batch_last _ _ _ _ (known (goal.at.returns-then-count-lt64 c).In-Ok) c.if-count-lt64.true)
+pub returns-then-many-lt64 : goal.returns-then-many-lt64
+returns-then-many-lt64 c =
+    filling_over _ _ _ _ _ _ _ (more (goal.at.returns-then-many-lt64 c).Else-size-text) (search rules)
+    (batch_last _ _ _ _ (known (goal.at.returns-then-many-lt64 c).In-Ok) c.if-many-lt64.true)
 
-pub loop-at-smaller : goal.loop-at-smaller
-loop-at-smaller c = batch_less _ _ _ _ (known (goal.at.loop-at-smaller c).In-Ok) c.if-count-lt64.false
+pub loop-text-smaller : goal.loop-text-smaller
+loop-text-smaller c = batch_less _ _ _ _ (known (goal.at.loop-text-smaller c).In-Ok) c.if-many-lt64.false
 
-pub loop-at-preserved : goal.loop-at-preserved
-loop-at-preserved c = more (goal.at.loop-at-preserved c).Else-size-at
+pub loop-text-preserved : goal.loop-text-preserved
+loop-text-preserved c = (more (goal.at.loop-text-preserved c).Else-size-text, c.append_batch.ensures.buffer ∙ c.loop-text.invariant.1)
 
 pub returns : goal.returns
-returns c = filling_stop _ _ _ _ _ _ _ _ c.loop-at.invariant c.loop-at-test.false
+returns c = filling_stop _ _ _ _ _ _ _ c.loop-text.invariant.0 (search rules) c.loop-text-test.false

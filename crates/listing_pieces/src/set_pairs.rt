@@ -9,29 +9,29 @@ use whole_walks::{Walk, walk_count};
 
 // The words of two sets of 65,536 bits that pass questions 1 to 3.
 #[derive(Clone, Copy)]
-pub(crate) struct Pair<'a> {
+pub(crate) struct SetPair<'a> {
     pub words: &'a [u64],
     pub other: &'a [u64],
     pub ghost sound: { both_questions all_offsets words.now all_offsets other.now ≡ 0 },
 }
 
-impl<'a> Pair<'a> {
+impl<'a> SetPair<'a> {
     // Asks 1 to 3 of the first set, then of the second.
-    pub fn new(words: &'a [u64], other: &'a [u64]) -> Result<Pair<'a>, Refusal>
+    pub fn new(words: &'a [u64], other: &'a [u64]) -> Result<SetPair<'a>, Refusal>
         ensures number { number_of result ≡ both_questions all_offsets words.entry.now all_offsets other.entry.now }
         ensures same { IfOk result (λ pair. (pair.words.now ≡ words.entry.now) × (pair.other.now ≡ other.entry.now)) }
     {
         let set = FixedBitSet { length: 65536 };
         set.check(words)?;
         set.check(other)?;
-        Ok(Pair { words, other })
+        Ok(SetPair { words, other })
     }
 
     // The second set, and then the first.
-    pub fn swapped(self) -> Pair<'a>
+    pub fn swapped(self) -> SetPair<'a>
         ensures { (result.words.now ≡ self.entry.other.now) × (result.other.now ≡ self.entry.words.now) }
     {
-        Pair {
+        SetPair {
             words: self.other,
             other: self.words,
         }

@@ -1,5 +1,5 @@
 use Rattle.listings.proofs.WalkLaws.{pair_given, alone_given, pair_accepted, alone_accepted, ones_asked, two-asked, pair_asked}
-use Rattle.listings.proofs.walk_steps.walk_next_many.Goals as goal
+use Rattle.listings.proofs.walk_steps.FileWalk.next_many.Goals as goal
 
 pub returns-in-Ones : goal.returns-in-Ones
 returns-in-Ones c =

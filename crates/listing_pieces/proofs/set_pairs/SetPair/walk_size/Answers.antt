@@ -1,6 +1,6 @@
 use mathlib.Core.Path.{◌∙◌}
 use Rattle.listing_pieces.proofs.SetLaws.{size_is}
-use Rattle.listing_pieces.proofs.pairs.Pair.walk_size.Goals as goal
+use Rattle.listing_pieces.proofs.set_pairs.SetPair.walk_size.Goals as goal
 
 pub returns : goal.returns
 returns c =

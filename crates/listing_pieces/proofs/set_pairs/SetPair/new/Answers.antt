@@ -2,7 +2,7 @@ use mathlib.Core.Path.{sym}
 use Rattle.sets.specs.Questions.{both_questions}
 use Rattle.sets.proofs.QuestionLaws.{first-yes}
 use Rattle.sets.proofs.RefusalLaws.{first_refused, number_refused}
-use Rattle.listing_pieces.proofs.pairs.Pair.new.Goals as goal
+use Rattle.listing_pieces.proofs.set_pairs.SetPair.new.Goals as goal
 
 pub returns-in_err-check-clause-number : goal.returns-in_err-check-clause-number
 unfolding both_questions

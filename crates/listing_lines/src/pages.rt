@@ -1,0 +1,25 @@
+ghost use Rattle.std.specs.Prelude.{◌≡◌, Bool};
+
+// Where the writing of a text stands that is written piece by piece.
+pub trait Progress {
+    ghost over: { Self → Bool };
+
+    // Whether nothing is left to write.
+    fn is_over(&self) -> bool
+        ensures { result ≡ over self.now };
+}
+
+// What is left to write: the stage, the records of its walk, and the place of its next line.
+#[derive(Clone, Copy)]
+pub struct Page<S, R> {
+    pub stage: S,
+    pub records: R,
+    pub place: usize,
+}
+
+// How many bytes of the buffer are the next piece, and what is left then.
+#[derive(Clone, Copy)]
+pub struct Written<S, R> {
+    pub length: usize,
+    pub page: Page<S, R>,
+}
