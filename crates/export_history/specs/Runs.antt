@@ -1,14 +1,8 @@
 -- A history with its walk as a number.
-use Rattle.std.specs.Prelude.{◌≡◌, cond, ℕ, ◌≤◌, ◌<◌, eqb}
+use Rattle.std.specs.Prelude.{◌≡◌, ℕ, ◌≤◌, ◌<◌}
 use Rattle.sets.specs.Members.{set_of, empty}
-use Rattle.whole_walks.specs.declared.walk.Walk.{Walk}
-use Rattle.whole_walks.specs.declared.walk.Walk.TheVariants.{Ones, Intersection, Difference, Union, SymmetricDifference}
 use Rattle.history.specs.Runs.{Input, Output}
 use Rattle.history.specs.ThirdDemand.{ThirdDemand}
-
--- the numbers 0 to 4 name the walks in this order
-abbrev pub walk_of : ℕ → Walk
-walk_of n = cond (eqb n 0) Ones (cond (eqb n 1) Intersection (cond (eqb n 2) Difference (cond (eqb n 3) Union SymmetricDifference)))
 
 -- a run of an unknown walk: number 99, lengths and count 0, every word as it was
 abbrev pub unknown_walk : Input → Output

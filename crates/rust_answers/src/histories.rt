@@ -7,16 +7,6 @@ use sets::blocks_of;
 use whole_walks::Walk;
 use word_lists::part;
 
-fn walk_of(number: u64) -> Walk {
-    match number {
-        0 => Walk::Ones,
-        1 => Walk::Intersection,
-        2 => Walk::Difference,
-        3 => Walk::Union,
-        _ => Walk::SymmetricDifference,
-    }
-}
-
 // The sum of (word k xor k) over the first words.
 fn checksum(words: &[u64], blocks: usize) -> u64 {
     let mut sum: u64 = 0;
@@ -69,6 +59,9 @@ fn ends_alike(
     other: &mut [u64],
     out: &mut [u64],
 ) -> bool {
+    let Ok(walk) = Walk::try_from(block(numbers, at.walk)) else {
+        return false;
+    };
     let ran = run_history(
         block(numbers, 0) as usize,
         words,
@@ -76,7 +69,7 @@ fn ends_alike(
         other,
         part(numbers, 3, at.walk),
         part(numbers, 0, 0),
-        walk_of(block(numbers, at.walk)),
+        walk,
         part(numbers, at.steps, at.a_length),
         out,
     );

@@ -5,6 +5,6 @@ mod walk;
 mod walk_counts;
 mod whole;
 
-pub use walk::Walk;
+pub use walk::{UnknownWalk, Walk};
 pub use walk_counts::walk_count;
 pub use whole::{Records, walk_whole};

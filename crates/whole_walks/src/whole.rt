@@ -13,6 +13,7 @@ use parts::{Difference, End, Intersection, Ones, Select};
 use sets::{Checked, FixedBitSet, Part, Refusal};
 use walks::{RowStep, first_part, step_rows};
 
+// Steps and answers are numbers in lent words, as the specification has them: 0 is a front step, and 2^64 - 1 an answer of none.
 fn end_of(number: u64) -> End
     ensures { result ≡ end_of number }
 {
