@@ -1,14 +1,17 @@
 -- As many marks as pairs: then no offset is from 65,536 up. Assumes nothing.
 use mathlib.Core.Path.{◌≡◌, refl, sym, ap, ap₂, ◌∙◌}
-use mathlib.Core.Bool.{Bool, true, false, cond, ◌||◌, true≢false}
+use mathlib.Core.Bool.{Bool, true, false, cond, not, ◌||◌, true≢false}
 use mathlib.Core.List.{List, [], ◌∷◌}
 use mathlib.Core.Logic.{◌⊎◌, inl, inr}
 use Prim.Native.Nat.{ℕ, suc, ◌+◌, ◌/◌, ◌≤◌, ◌<◌}
-use native.Mathlib.Nat.{add-suc, suc-add}
 use native.Mathlib.Omega.{arith}
 use borrow.Author.Tests.{le-leb, lt-leb, eq-eqb, ne_eqb}
 use lib.Dec.{eqb, leb}
+use Rattle.std.proofs.Math.Bool.{or-true, or-false}
 use lib.ListN.{length, length-set}
+use Rattle.std.specs.List.{filter}
+use Rattle.std.proofs.lemmas.Bool.{or_parts}
+use Rattle.std.proofs.lemmas.List.Filters.{length-filter_both}
 use Rattle.word_bits.specs.Counts.{count}
 use Rattle.word_bits.proofs.Ones.{count_ext}
 use Rattle.word_bits.proofs.Order.{lt-or-le}
@@ -26,66 +29,52 @@ use Rattle.renumber_steps.proofs.AskLaws.{no_marks_long, run}
 
 -- ---- marks that none was there for
 
-or_no : (a b : Bool) → (a || b) ≡ false → (a ≡ false) × (b ≡ false)
-or_no true b e = absurd (true≢false e)
-or_no false b e = (refl, e)
-
 -- an offset that is there is not in the list
 hit_no : (u : Members) (xs : List ℕ) (x : ℕ) → x < u.len → hits u xs ≡ false → u.has x ≡ true → is_in xs x ≡ false
 unfolding hits is_in
 hit_no u [] x l e h = refl
 hit_no u (y ∷ ys) x l e h =
-    let both = or_no (u.has y) (hits (held y u) ys) e in
+    let both = or_parts (u.has y) (hits (held y u) ys) e in
     ap₂ ◌||◌ (ne_eqb y x (λ z. true≢false (sym h ∙ ap u.has (sym z) ∙ both.0)))
-    (hit_no (held y u) ys x (rw (held_len y u) l) both.1 (held_has y u x l ∙ ap (λ (b : Bool). eqb y x || b) h ∙ or_yes (eqb y x)))
-  where
-    or_yes : (b : Bool) → (b || true) ≡ true
-    or_yes true = refl
-    or_yes false = refl
+    (hit_no (held y u) ys x (rw (held_len y u) l) both.1 (held_has y u x l ∙ ap (λ (b : Bool). eqb y x || b) h ∙ or-true (eqb y x)))
 
 -- those of a list below 65,536
-unfoldable belows : List ℕ → List ℕ
-belows [] = []
-belows (x ∷ xs) = cond (leb 65536 x) (belows xs) (x ∷ belows xs)
+abbrev belows : List ℕ → List ℕ
+belows xs = filter (λ x. not (leb 65536 x)) xs
 
 belows_in : (xs : List ℕ) (p : ℕ) → p < 65536 → is_in (belows xs) p ≡ is_in xs p
-unfolding belows is_in
+unfolding is_in
 belows_in [] p h = refl
 belows_in (x ∷ xs) p h = go (lt-or-le x 65536) (belows_in xs p h)
   where
-    go : (x < 65536) ⊎ (65536 ≤ x) → is_in (belows xs) p ≡ is_in xs p → is_in (cond (leb 65536 x) (belows xs) (x ∷ belows xs)) p ≡ (eqb x p || is_in xs p)
+    go : (x < 65536) ⊎ (65536 ≤ x) → is_in (belows xs) p ≡ is_in xs p → is_in (cond (not (leb 65536 x)) (x ∷ belows xs) (belows xs)) p ≡ (eqb x p || is_in xs p)
     go (inl l) e = rw (lt-leb 65536 x l) (ap (λ (b : Bool). eqb x p || b) e)
     go (inr g) e = rw (le-leb 65536 x g, ne_eqb x p (λ z. omega arith)) e
 
 belows_once : (u : Members) (xs : List ℕ) → u.len ≡ 65536 → hits u xs ≡ false → repeats (belows xs) ≡ false
-unfolding hits belows repeats
+unfolding hits repeats
 belows_once u [] n e = refl
 belows_once u (x ∷ xs) n e =
-    let both = or_no (u.has x) (hits (held x u) xs) e in
+    let both = or_parts (u.has x) (hits (held x u) xs) e in
     go (lt-or-le x 65536) both.1 (belows_once (held x u) xs (held_len x u ∙ n) both.1)
   where
-    go : (x < 65536) ⊎ (65536 ≤ x) → hits (held x u) xs ≡ false → repeats (belows xs) ≡ false → repeats (cond (leb 65536 x) (belows xs) (x ∷ belows xs)) ≡ false
+    go : (x < 65536) ⊎ (65536 ≤ x) → hits (held x u) xs ≡ false → repeats (belows xs) ≡ false → repeats (cond (not (leb 65536 x)) (x ∷ belows xs) (belows xs)) ≡ false
     go (inl l) h r =
         rw (lt-leb 65536 x l) (ap₂ ◌||◌ (belows_in xs x l ∙ hit_no (held x u) xs x (rw (held_len x u, n) l) h (held_has x u x (rw n l) ∙ ap (λ (b : Bool). b || u.has x) (eq-eqb x x refl))) r)
     go (inr g) h r = rw (le-leb 65536 x g) r
 
 belows_fit : (xs : List ℕ) → positions_question (set_of (empty 65536)) (belows xs) ≡ 0
-unfolding belows positions_question
+unfolding positions_question
 belows_fit [] = refl
 belows_fit (x ∷ xs) = go (lt-or-le x 65536) (belows_fit xs)
   where
-    go : (x < 65536) ⊎ (65536 ≤ x) → positions_question (set_of (empty 65536)) (belows xs) ≡ 0 → positions_question (set_of (empty 65536)) (cond (leb 65536 x) (belows xs) (x ∷ belows xs)) ≡ 0
+    go : (x < 65536) ⊎ (65536 ≤ x) → positions_question (set_of (empty 65536)) (belows xs) ≡ 0 → positions_question (set_of (empty 65536)) (cond (not (leb 65536 x)) (x ∷ belows xs) (belows xs)) ≡ 0
     go (inl l) e = rw (lt-leb 65536 x l) (sym (first-yes (position_yes (set_of (empty 65536)) x l) (sym e)))
     go (inr g) e = rw (le-leb 65536 x g) e
 
-parted : (xs : List ℕ) → length (belows xs) + length (aboves xs) ≡ length xs
-unfolding belows aboves
-parted [] = refl
-parted (x ∷ xs) = go (leb 65536 x) (parted xs)
-  where
-    go : (b : Bool) → length (belows xs) + length (aboves xs) ≡ length xs → length (cond b (belows xs) (x ∷ belows xs)) + length (cond b (x ∷ aboves xs) (aboves xs)) ≡ suc (length xs)
-    go true e = add-suc (length (belows xs)) (length (aboves xs)) ∙ ap suc e
-    go false e = suc-add (length (belows xs)) (length (aboves xs)) ∙ ap suc e
+parted : (xs : List ℕ) → length (aboves xs) + length (belows xs) ≡ length xs
+unfolding aboves
+parted xs = length-filter_both (leb 65536) (λ x. not (leb 65536 x)) (λ x. refl) xs
 
 no_repeats : (xs : List ℕ) → length xs ≡ 0 → repeats xs ≡ false
 unfolding repeats
@@ -126,10 +115,6 @@ module _ (xs : List ℕ) (none : (marking_all no_marks xs).found ≡ false) wher
       ap (λ (t : Taken). bit_of t.words p) (run xs)
       ∙ bit_write no_marks (marks (empty 65536) xs) p (rw (marks_len (empty 65536) xs) (omega arith))
       ∙ marks_has (empty 65536) xs p l none_hit ∙ or-false (is_in xs p) ∙ sym (belows_in xs p l)
-    where
-      or-false : (b : Bool) → (b || false) ≡ b
-      or-false true = refl
-      or-false false = refl
 
   all_below : count 65536 (bit_of (marking_all no_marks xs).words) ≡ length xs → length (belows xs) ≡ length xs
   all_below full =

@@ -9,6 +9,7 @@ use native.Mathlib.Numerals.{add-one}
 use native.Mathlib.Omega.{arith}
 use borrow.Author.Tests.{ne_eqb, eqb-true, eqb-false}
 use lib.Dec.{eqb}
+use Rattle.std.proofs.Math.Bool.{and-false}
 use lib.ListN.{length}
 use Rattle.word_bits.specs.Digits.{one}
 use Rattle.word_bits.specs.Counts.{count}
@@ -26,13 +27,6 @@ use Rattle.renumber_steps.proofs.PairListLaws.{repeats-both, arrives_in}
 
 -- ---- counting a list with no repeats
 
-lt_of_ne : (x n : ℕ) → x < suc n → (x ≡ n → ⊥) → x < n
-lt_of_ne x n h e = go (lt-or-le x n)
-  where
-    go : (x < n) ⊎ (n ≤ x) → x < n
-    go (inl l) = l
-    go (inr g) = absurd (e (omega arith))
-
 -- one place more
 count-more : (n x : ℕ) (f : ℕ → Bool) → x < n → f x ≡ false → count n (λ p. eqb x p || f p) ≡ suc (count n f)
 unfolding count
@@ -47,7 +41,7 @@ count-more (suc n) x f h e = go (eqb x n) refl (λ l. count-more n x f l e)
         ∙ add-one (count n f) ∙ ap suc (sym (add-zero (count n f))) ∙ sym (ap (λ (b : Bool). suc (count n f + one b)) (ap f (sym same) ∙ e))
     go false z k =
         let other = eqb-false x n z in
-        ap (λ (a : ℕ). a + one (f n)) (k (lt_of_ne x n h other)) ∙ suc-add (count n f) (one (f n))
+        ap (λ (a : ℕ). a + one (f n)) (k (omega (arith, h, other))) ∙ suc-add (count n f) (one (f n))
 
 pub count_list : (set : FixedBitSet) (xs : List ℕ) → repeats xs ≡ false → positions_question set xs ≡ 0 → count set.length (is_in xs) ≡ length xs
 unfolding is_in
@@ -66,11 +60,7 @@ kept (p ∷ ps) s = cond (s.has p.old) (p ∷ kept ps s) (kept ps s)
 -- the old offsets of those are the members that have a pair
 kept_olds : (ps : List Pair) (s : Members) (x : ℕ) → is_in (olds (kept ps s)) x ≡ (s.has x && is_in (olds ps) x)
 unfolding kept olds is_in
-kept_olds [] s x = sym (and_no (s.has x))
-  where
-    and_no : (b : Bool) → (b && false) ≡ false
-    and_no true = refl
-    and_no false = refl
+kept_olds [] s x = sym (and-false (s.has x))
 kept_olds (p ∷ ps) s x = go (s.has p.old) refl (kept_olds ps s x)
   where
     one_in : (t : Bool) → eqb p.old x ≡ t → s.has p.old ≡ true → (b : Bool) → (t || (s.has x && b)) ≡ (s.has x && (t || b))
@@ -108,12 +98,8 @@ unfolding kept olds repeats
 kept_olds-once [] s e = refl
 kept_olds-once (p ∷ ps) s e =
     let both = repeats-both p.old (olds ps) e in
-    go (s.has p.old) (kept_olds-once ps s both.1) (kept_olds ps s p.old ∙ ap (λ (b : Bool). s.has p.old && b) both.0 ∙ and_no (s.has p.old))
+    go (s.has p.old) (kept_olds-once ps s both.1) (kept_olds ps s p.old ∙ ap (λ (b : Bool). s.has p.old && b) both.0 ∙ and-false (s.has p.old))
   where
-    and_no : (b : Bool) → (b && false) ≡ false
-    and_no true = refl
-    and_no false = refl
-
     go : (t : Bool) → repeats (olds (kept ps s)) ≡ false → is_in (olds (kept ps s)) p.old ≡ false → repeats (olds (cond t (p ∷ kept ps s) (kept ps s))) ≡ false
     go true r i = ap₂ ◌||◌ i r
     go false r i = r

@@ -5,6 +5,8 @@ use mathlib.Core.List.{List, [], ◌∷◌}
 use Prim.Native.Nat.{ℕ}
 use borrow.Author.Tests.{eq-eqb, ne_eqb, eqb-true}
 use lib.Dec.{eqb}
+use Rattle.std.proofs.Math.Bool.{and-true, and-false, or-false}
+use Rattle.std.proofs.lemmas.Bool.{or_parts}
 use Rattle.sets.specs.Members.{Members}
 use Rattle.edits.specs.Edits.{is_in}
 use Rattle.renumber_steps.specs.Pairs.{olds, news, repeats, arrives, sided_pair, sided, swapped}
@@ -34,13 +36,9 @@ swapped-news (p ∷ ps) = ap (λ (l : List ℕ). p.old ∷ l) (swapped-news ps)
 
 -- ---- no offset stands twice
 
-or-false : (a b : Bool) → (a || b) ≡ false → (a ≡ false) × (b ≡ false)
-or-false true b e = absurd (true≢false e)
-or-false false b e = (refl, e)
-
 pub repeats-both : (x : ℕ) (xs : List ℕ) → repeats (x ∷ xs) ≡ false → (is_in xs x ≡ false) × (repeats xs ≡ false)
 unfolding repeats
-repeats-both x xs e = or-false (is_in xs x) (repeats xs) e
+repeats-both x xs e = or_parts (is_in xs x) (repeats xs) e
 
 -- ---- what arrives
 
@@ -49,12 +47,8 @@ pub arrives_in : (ps : List Pair) (s : Members) (q : ℕ) → is_in (news ps) q 
 unfolding arrives news is_in
 arrives_in [] s q e = refl
 arrives_in (p ∷ ps) s q e =
-    let both = or-false (eqb p.new q) (is_in (news ps) q) e in
-    ap₂ ◌||◌ (ap (λ (b : Bool). s.has p.old && b) both.0 ∙ and_no (s.has p.old)) (arrives_in ps s q both.1)
-  where
-    and_no : (b : Bool) → (b && false) ≡ false
-    and_no true = refl
-    and_no false = refl
+    let both = or_parts (eqb p.new q) (is_in (news ps) q) e in
+    ap₂ ◌||◌ (ap (λ (b : Bool). s.has p.old && b) both.0 ∙ and-false (s.has p.old)) (arrives_in ps s q both.1)
 
 -- a property of each pair of a list
 abbrev pub Each : (Pair → Type 0) → List Pair → Type 0
@@ -74,24 +68,16 @@ unfolding Arrived arrives news is_in
 arrived_more s p ps e q a =
     let other = ne_eqb p.new q.new (λ z. true≢false (sym a.0 ∙ ap (is_in (news ps)) (sym z) ∙ e)) in (
       ap₂ ◌||◌ other a.0,
-      ap (λ (b : Bool). (s.has p.old && b) || arrives ps s q.new) other ∙ and_no (s.has p.old) (arrives ps s q.new) ∙ a.1,
+      ap (λ (b : Bool). (s.has p.old && b) || arrives ps s q.new) other ∙ ap (λ (b : Bool). b || arrives ps s q.new) (and-false (s.has p.old)) ∙ a.1,
     )
-  where
-    and_no : (b c : Bool) → ((b && false) || c) ≡ c
-    and_no true c = refl
-    and_no false c = refl
 
 arrived_first : (s : Members) (p : Pair) (ps : List Pair) → is_in (news ps) p.new ≡ false → Arrived s (p ∷ ps) p
 unfolding Arrived arrives news is_in
 arrived_first s p ps e =
     let same = eq-eqb p.new p.new refl in (
       ap (λ (b : Bool). b || is_in (news ps) p.new) same,
-      ap₂ (λ (b c : Bool). (s.has p.old && b) || c) same (arrives_in ps s p.new e) ∙ go (s.has p.old),
+      ap₂ (λ (b c : Bool). (s.has p.old && b) || c) same (arrives_in ps s p.new e) ∙ or-false (s.has p.old && true) ∙ and-true (s.has p.old),
     )
-  where
-    go : (b : Bool) → ((b && true) || false) ≡ b
-    go true = refl
-    go false = refl
 
 each_arrived : (s : Members) (ps : List Pair) → repeats (news ps) ≡ false → Each (Arrived s ps) ps
 unfolding news
@@ -114,13 +100,9 @@ returned s u (q ∷ qs) x e =
     all false true = refl
     all false false = refl
 
-    none : (h b c : Bool) → ((h && false) || c) ≡ c
-    none true b c = refl
-    none false b c = refl
-
     go : (t : Bool) → eqb q.old x ≡ t → (b : Bool) → ((s.has q.old && t) || (b && s.has x)) ≡ ((t || b) && s.has x)
     go true z b = ap (λ (h : Bool). (h && true) || (b && s.has x)) (ap s.has (eqb-true q.old x z)) ∙ all (s.has x) b
-    go false z b = none (s.has q.old) b (b && s.has x)
+    go false z b = ap (λ (h : Bool). h || (b && s.has x)) (and-false (s.has q.old))
 
 -- what arrives, swapped, is what was there of the old offsets
 pub there_and_back : (s u : Members) (ps : List Pair) (x : ℕ) → ((q : ℕ) → u.has q ≡ arrives ps s q) → repeats (news ps) ≡ false

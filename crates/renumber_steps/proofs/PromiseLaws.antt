@@ -5,6 +5,7 @@ use mathlib.Core.List.{List, [], ◌∷◌}
 use mathlib.Core.Logic.{◌⊎◌, inl, inr}
 use Prim.Native.Nat.{ℕ, ◌+◌, ◌-◌, ◌^◌, ◌≤◌, ◌<◌}
 use native.Mathlib.Omega.{arith}
+use Rattle.std.proofs.Math.Bool.{and-false, and_comm}
 use lib.ListN.{length, get_or, take, drop, length-drop}
 use lib.Seq.{ext_get_or, length-take-le, get_or-take, get_or-drop}
 use Rattle.word_bits.proofs.Order.{lt-or-le}
@@ -26,10 +27,6 @@ use Rattle.renumber_steps.proofs.PairListLaws.{swapped-olds, swapped-news, arriv
 use Rattle.renumber_steps.proofs.CountLaws.{same_count}
 use Rattle.renumber_steps.proofs.AcceptLaws.{Accepted, accepted, accepts, accepted_by}
 
--- an offset that is not below the length is in no list that 4 accepts
-not_in : (set : FixedBitSet) (xs : List ℕ) (x : ℕ) → positions_question set xs ≡ 0 → set.length ≤ x → is_in xs x ≡ false
-not_in = not_listed
-
 and-not : (a b : Bool) → (a && not b) ≡ false → (a && b) ≡ a
 and-not true true e = refl
 and-not true false e = absurd (true≢false e)
@@ -49,7 +46,7 @@ module _ (set : FixedBitSet) (ws : List ℕ) (ps : List Pair) (n : ℕ) (vs : Li
     -- the new set has no member from its length up
     new_clipped : Clipped t
     unfolding renumbered
-    new_clipped = record { above = λ q h. arrives_in ps s q (not_in (set_of (empty n)) (news ps) q a.below h) }
+    new_clipped = record { above = λ q h. arrives_in ps s q (not_listed (set_of (empty n)) (news ps) q a.below h) }
 
     new_valid : Valid (set_of t) (write vs t)
     unfolding renumbered
@@ -121,11 +118,7 @@ module _ (set : FixedBitSet) (ws : List ℕ) (ps : List Pair) (n : ℕ) (vs us :
       ap₂ (λ (m : Members) (xs : List ℕ). m.has x && not (is_in xs x)) (new_read set ws ps n vs a) (swapped-olds ps) ∙ go (is_in (news ps) x) refl
     where
       go : (b : Bool) → is_in (news ps) x ≡ b → (arrives ps old x && not b) ≡ false
-      go true e = and_no (arrives ps old x)
-        where
-          and_no : (b : Bool) → (b && false) ≡ false
-          and_no true = refl
-          and_no false = refl
+      go true e = and-false (arrives ps old x)
       go false e = ap (λ (b : Bool). b && true) (arrives_in ps old x e)
 
   back_room : Room set.length (length us)
@@ -136,16 +129,10 @@ module _ (set : FixedBitSet) (ws : List ℕ) (ps : List Pair) (n : ℕ) (vs us :
   unfolding renumbered read
   back_members = ap (λ (h : ℕ → Bool). record { len = set.length; has = h }) (fun_ext (λ x. same x (lt-or-le x set.length)))
     where
-      flip : (b c : Bool) → (b && c) ≡ (c && b)
-      flip true true = refl
-      flip true false = refl
-      flip false true = refl
-      flip false false = refl
-
       same : (x : ℕ) → (x < set.length) ⊎ (set.length ≤ x) → arrives (swapped ps) (read (write vs new) (set_of new)) x ≡ old.has x
       same x w =
           there_and_back old (read (write vs new) (set_of new)) ps x (λ q. ap (λ (m : Members). m.has q) (new_read set ws ps n vs a)) a.news-once
-          ∙ flip (is_in (olds ps) x) (old.has x) ∙ end w
+          ∙ and_comm (is_in (olds ps) x) (old.has x) ∙ end w
         where
           end : (x < set.length) ⊎ (set.length ≤ x) → (old.has x && is_in (olds ps) x) ≡ old.has x
           end (inl l) = has_pair set ws ps n vs a x l

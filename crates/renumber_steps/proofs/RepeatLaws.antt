@@ -7,6 +7,7 @@ use Prim.Native.Nat.{ℕ, ◌≤◌, ◌<◌}
 use native.Mathlib.Omega.{arith}
 use borrow.Author.Tests.{le-leb, lt-leb, lt-ltb, le-ltb, ne_eqb}
 use lib.Dec.{eqb, leb, ltb}
+use Rattle.std.proofs.Math.Bool.{or-true}
 use Rattle.word_bits.proofs.Order.{lt-or-le}
 use Rattle.sets.specs.Members.{Members, empty, changed}
 use Rattle.sets.proofs.WriteLaws.{Clipped}
@@ -90,10 +91,6 @@ in_aboves x (y ∷ ys) h = go (lt-or-le y 65536) (in_aboves x ys h)
     go (inr g) e = rw (le-leb 65536 y g) (ap (λ (b : Bool). eqb y x || b) e)
 
 -- ---- the marks and the comparing together find what stands twice
-
-or-true : (b : Bool) → (b || true) ≡ true
-or-true true = refl
-or-true false = refl
 
 low : (h k a i m r : Bool) → (k || a) ≡ ((i || m) || r) → ((h || k) || a) ≡ ((h || m) || (i || r))
 low true k a i m r e = refl

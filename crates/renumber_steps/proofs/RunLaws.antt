@@ -6,6 +6,7 @@ use mathlib.Core.Logic.{◌⊎◌, inl, inr}
 use Prim.Native.Nat.{ℕ, ◌/◌, ◌%◌, ◌≤◌, ◌<◌}
 use native.Mathlib.Omega.{arith}
 use lib.Dec.{eqb}
+use Rattle.std.proofs.Math.Bool.{or-false}
 use lib.ListN.{length, get_or-eq_default}
 use lib.Seq.{set_out}
 use Rattle.word_bits.specs.Digits.{digit}
@@ -68,10 +69,6 @@ joined ps s t = record { len = t.len; has = λ q. t.has q || arrives ps s q }
 joined-none : (s t : Members) → joined [] s t ≡ t
 unfolding joined arrives
 joined-none s t = ap (λ (h : ℕ → Bool). record { len = t.len; has = h }) (fun_ext (λ q. or-false (t.has q)))
-  where
-    or-false : (b : Bool) → (b || false) ≡ b
-    or-false true = refl
-    or-false false = refl
 
 joined-more : (p : Pair) (ps : List Pair) (s t : Members) (b : Bool) → s.has p.old ≡ b → joined ps s (cond b (inserted p.new t) t) ≡ joined (p ∷ ps) s t
 unfolding joined arrives changed

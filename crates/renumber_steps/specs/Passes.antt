@@ -1,14 +1,14 @@
 -- What the helpers do, offset by offset and pair by pair.
 use Rattle.std.specs.Prelude.{Bool, false, cond, ◌||◌, List, [], ◌∷◌, ℕ, ◌/◌, ◌%◌, ◌^◌, leb, get_or, replicate, set as set_at}
 use Rattle.std.specs.Int.Bits.{bit_or}
+use Rattle.std.specs.List.{filter}
 use Rattle.sets.specs.Members.{Members, bit_of}
 use Rattle.renumber_steps.specs.Pairs.{repeats}
 use Rattle.renumber_steps.specs.declared.pair.Pair.{Pair}
 
 -- those of a list from 65,536 up
 unfoldable pub aboves : List ℕ → List ℕ
-aboves [] = []
-aboves (p ∷ ps) = cond (leb 65536 p) (p ∷ aboves ps) (aboves ps)
+aboves ps = filter (leb 65536) ps
 
 -- whether an offset was marked before, and the words after it
 pub record Taken : Type 0 where
