@@ -30,6 +30,7 @@ fn renumber_sided<S: Side>(
 
 // The set of `bits` bits with exactly the new offset of each member. Asks 1 to 3 of the old set, 6 and 7 of the new one, then 10, 11, 4 and 12 of the pairs;
 // only then is a word written.
+#[tactic(auto, using(renumber_steps::proofs::PairListLaws::sided_same))]
 pub fn renumber(
     set: FixedBitSet,
     words: &[u64],

@@ -7,6 +7,7 @@ use renumber_steps::{Pair, Side};
 use sets::Checked;
 
 // Makes the bit of an offset 1 where the words have it, and tells whether it was. Asks nothing.
+#[tactic(auto, using(renumber_steps::proofs::MarkLaws::mark_in, renumber_steps::proofs::MarkLaws::mark_out))]
 fn mark(words: &mut [u64], offset: u64) -> bool
     ensures { record { found = result; words = words.new } ≡ marking words.old offset }
 {
@@ -33,6 +34,7 @@ pub(crate) fn mark_olds<S: Side>(pairs: &[Pair], marks: &mut [u64]) -> bool
 }
 
 // Whether an offset is a member.
+#[tactic(auto, using(renumber_steps::proofs::MarkLaws::bit_is, sets::proofs::ReadLaws::read_below, sets::proofs::ReadLaws::read_above, sets::proofs::WordLaws::word_of_lem))]
 fn holds(set: Checked, offset: u64) -> bool
     ensures { result ≡ (members set.entry).has offset }
 {
