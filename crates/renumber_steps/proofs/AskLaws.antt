@@ -27,7 +27,7 @@ use Rattle.comparisons.specs.Rules.{is_subset_rule}
 use Rattle.edits.specs.Edits.{is_in}
 use Rattle.renumber_steps.specs.Pairs.{olds, news, repeats, renumbered, sided_pair, sided}
 use Rattle.renumber_steps.specs.Rules.{olds_question, news_question, members_question, pairs_questions, renumber_questions, renumber_rule}
-use Rattle.renumber_steps.specs.Passes.{Taken, aboves, marking_all, moved, no_marks, shared, pairs_number}
+use Rattle.renumber_steps.specs.Passes.{Taken, aboves, marking, moved, no_marks, shared, pairs_number}
 use Rattle.renumber_steps.specs.declared.pair.Pair.{Pair}
 use Rattle.renumber_steps.proofs.RepeatLaws.{hits, marks, hits_repeats, marks_len, marks_clipped, marks_has}
 use Rattle.renumber_steps.proofs.RunLaws.{marked_run, moved_all}
@@ -57,8 +57,8 @@ none_clipped : (n : ℕ) → Clipped (empty n)
 none_clipped n = record { above = λ p h. refl }
 
 module _ (xs : List ℕ) where
-  pub run : marking_all no_marks xs ≡ record { found = hits (empty 65536) xs; words = write no_marks (marks (empty 65536) xs) }
-  run = ap (λ (l : List ℕ). marking_all l xs) unmarked ∙ marked_run no_marks xs (empty 65536) (none_clipped 65536) refl no_marks_long
+  pub run : marking no_marks xs ≡ record { found = hits (empty 65536) xs; words = write no_marks (marks (empty 65536) xs) }
+  run = ap (λ (l : List ℕ). marking l xs) unmarked ∙ marked_run no_marks xs (empty 65536) (none_clipped 65536) refl no_marks_long
 
   shared-found : (shared xs).found ≡ repeats xs
   unfolding shared

@@ -15,37 +15,37 @@ use Rattle.word_bits.proofs.Digits.{digit_of_zero, digit_word, word_is, word_lt}
 use Rattle.word_bits.proofs.Operations.{digit_or, digit_power}
 use Rattle.word_bits.proofs.SingleBit.{single_bit, test_bit}
 use Rattle.sets.specs.Members.{Members, words_of, bit_of, write, changed}
+use Rattle.sets.proofs.ReadLaws.{read_below, read_above}
 use Rattle.sets.proofs.WordLaws.{word_of_lem}
 use Rattle.sets.proofs.WriteLaws.{length-write, write_in, write_out, write_is}
 use Rattle.edits.specs.Edits.{inserted}
-use Rattle.renumber_steps.specs.Passes.{Taken, marked, marking}
+use Rattle.renumber_steps.specs.Passes.{marked}
 
 -- ---- the code
-
--- an offset beyond the words is not marked
-pub mark_out : (ws : List ℕ) (x : ℕ) → length ws ≤ x / 64 → ◌≡◌ {A = Taken} (record { found = false; words = ws }) (marking ws x)
-unfolding marking marked bit_of
-mark_out ws x h =
-    ap₂ (λ (b : Bool) (l : List ℕ). record { found = b; words = l })
-    (sym (ap (λ (w : ℕ). digit w (x % 64)) (get_or-eq_default ws 0 h) ∙ digit_of_zero (x % 64))) (sym (set_out ws (x / 64) _ h))
 
 pub bit_is : (ws : List ℕ) (x : ℕ) → not (eqb (bit_and (get_or ws (x / 64) 0) ((1 * 2 ^ (x % 64)) % 2 ^ 64)) 0) ≡ bit_of ws x
 unfolding bit_of
 bit_is ws x =
     ap (λ (m : ℕ). not (eqb (bit_and (get_or ws (x / 64) 0) m) 0)) (single_bit (x % 64) (omega arith)) ∙ test_bit (get_or ws (x / 64) 0) (x % 64) (omega arith)
 
-pub mark_in : (ws : List ℕ) (x : ℕ) → ◌≡◌ {A = Taken}
-    (record {
-      found = not (eqb (bit_and (get_or ws (x / 64) 0) ((1 * 2 ^ (x % 64)) % 2 ^ 64)) 0);
-      words = set_at ws (x / 64) (bit_or (get_or ws (x / 64) 0) ((1 * 2 ^ (x % 64)) % 2 ^ 64));
-    })
-    (marking ws x)
-unfolding marking marked
-mark_in ws x =
-    ap₂ (λ (b : Bool) (m : ℕ). record { found = b; words = set_at ws (x / 64) (bit_or (get_or ws (x / 64) 0) m) })
-    (bit_is ws x) (single_bit (x % 64) (omega arith))
+pub mark_is : (ws : List ℕ) (x : ℕ) → set_at ws (x / 64) (bit_or (get_or ws (x / 64) 0) ((1 * 2 ^ (x % 64)) % 2 ^ 64)) ≡ marked ws x
+unfolding marked
+mark_is ws x = ap (λ (m : ℕ). set_at ws (x / 64) (bit_or (get_or ws (x / 64) 0) m)) (single_bit (x % 64) (omega arith))
+
+-- an offset beyond the words is not marked
+pub bit_beyond : (ws : List ℕ) (x : ℕ) → length ws ≤ x / 64 → bit_of ws x ≡ false
+unfolding bit_of
+bit_beyond ws x h = ap (λ (w : ℕ). digit w (x % 64)) (get_or-eq_default ws 0 h) ∙ digit_of_zero (x % 64)
+
+pub mark_beyond : (ws : List ℕ) (x : ℕ) → length ws ≤ x / 64 → marked ws x ≡ ws
+unfolding marked
+mark_beyond ws x h = set_out ws (x / 64) _ h
+
+pub ruleset mark_cases = (bit_is, mark_is, bit_beyond, mark_beyond)
 
 -- ---- the words of a set
+
+pub ruleset member_cases = (bit_is, read_below, read_above, word_of_lem)
 
 -- two equality tests agree where their equations do
 pub eqb_agree : (a b c d : ℕ) → (a ≡ b → c ≡ d) → (c ≡ d → a ≡ b) → eqb a b ≡ eqb c d

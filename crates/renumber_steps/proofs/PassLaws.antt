@@ -1,8 +1,8 @@
 -- What the passes say of the pairs from a place on, by the pair that stands there. Assumes nothing.
-use mathlib.Core.Path.{◌≡◌, refl, sym, ◌∙◌, ap}
+use mathlib.Core.Path.{◌≡◌, refl, sym, ◌∙◌, ap, ap₂}
 use Prim.Native.Nat.{ℕ, ◌+◌, ◌-◌, ◌≤◌, ◌<◌}
 use native.Mathlib.Numerals.{add-one}
-use mathlib.Core.Bool.{Bool, false, cond, ◌||◌}
+use mathlib.Core.Bool.{Bool, true, false, cond, ◌||◌}
 use mathlib.Core.List.{List, [], ◌∷◌}
 use borrow.Author.Tests.{lt-leb, le-leb}
 use lib.Dec.{eqb}
@@ -10,10 +10,10 @@ use lib.ListN.{length, get_or, take, drop, drop_of_length-le}
 use lib.Seq.{drop-cons, take-length}
 use Rattle.std.specs.List.{list_any}
 use Rattle.std.proofs.Common.{length-drop}
-use Rattle.sets.specs.Members.{Members}
+use Rattle.sets.specs.Members.{Members, bit_of}
 use Rattle.edits.specs.Edits.{is_in}
 use Rattle.renumber_steps.specs.Pairs.{sided_pair, sided, olds, repeats}
-use Rattle.renumber_steps.specs.Passes.{Taken, aboves, marked, marking, marking_all, moved}
+use Rattle.renumber_steps.specs.Passes.{Taken, aboves, marked, marking, moved}
 use Rattle.renumber_steps.specs.declared.pair.Pair.{Pair}
 use Rattle.renumber_steps.proofs.RepeatLaws.{in_aboves}
 
@@ -49,32 +49,39 @@ module _ (back : Bool) (ps : List Pair) (k : ℕ) where
   unfolding sided
   over l = ap (sided back) (drop_of_length-le ps l)
 
-  -- marks, where that of the pair there gives x
+  -- marks
   abbrev pub marks_from : List ℕ → Taken
-  marks_from ws = marking_all ws (olds (sided back (drop k ps)))
+  marks_from ws = marking ws (olds (sided back (drop k ps)))
 
-  pub marks_here : (ws : List ℕ) {p : Pair} {x : Taken} → k < length ps → p ≡ sided_pair back (get_or ps k none) → x ≡ marking ws p.old
-      → marks_from ws ≡ cond x.found x (marking_all x.words (olds behind))
-  unfolding marking marking_all olds
-  marks_here ws {p} l q e =
-      ap (λ (qs : List Pair). marking_all ws (olds qs)) (here l) ∙ ap (λ (p : Pair). marking_all ws (p.old ∷ olds behind)) (sym q)
-      ∙ ap (λ (x : Taken). cond x.found x (marking_all x.words (olds behind))) (sym e)
+  pub marks_here : (ws : List ℕ) {zs : List ℕ} {p : Pair} {b : Bool} → k < length ps → p ≡ sided_pair back (get_or ps k none) → b ≡ bit_of ws p.old
+      → zs ≡ marked ws p.old → marks_from ws ≡ cond b (record { found = true; words = zs }) (marking zs (olds behind))
+  unfolding marking olds
+  marks_here ws {zs} {p} l q e z =
+      ap (λ (qs : List Pair). marking ws (olds qs)) (here l) ∙ ap (λ (p : Pair). marking ws (p.old ∷ olds behind)) (sym q)
+      ∙ ap₂ (λ (b : Bool) (l : List ℕ). cond b (record { found = true; words = l }) (marking l (olds behind))) (sym e) (sym z)
 
   pub marks_over : (ws : List ℕ) → length ps ≤ k → marks_from ws ≡ record { found = false; words = ws }
-  unfolding marking_all olds
-  marks_over ws l = ap (λ (qs : List Pair). marking_all ws (olds qs)) (over l)
+  unfolding marking olds
+  marks_over ws l = ap (λ (qs : List Pair). marking ws (olds qs)) (over l)
 
   -- moves
   module _ (s : Members) where
     abbrev pub moved_from : List ℕ → List ℕ
     moved_from ws = moved s ws (sided back (drop k ps))
 
-    pub moved_here : (ws : List ℕ) {zs : List ℕ} {p : Pair} {b : Bool} → k < length ps → p ≡ sided_pair back (get_or ps k none) → s.has p.old ≡ b
-        → zs ≡ cond b (marked ws p.new) ws → moved_from ws ≡ moved s zs behind
+    one : (ws : List ℕ) {p : Pair} {b : Bool} → k < length ps → p ≡ sided_pair back (get_or ps k none) → s.has p.old ≡ b
+        → moved_from ws ≡ moved s (cond b (marked ws p.new) ws) behind
     unfolding moved
-    moved_here ws {zs} {p} l q e z =
+    one ws {p} l q e =
         ap (moved s ws) (here l) ∙ ap (λ (p : Pair). moved s (cond (s.has p.old) (marked ws p.new) ws) behind) (sym q)
-        ∙ ap (λ (b : Bool). moved s (cond b (marked ws p.new) ws) behind) e ∙ ap (λ (ws : List ℕ). moved s ws behind) (sym z)
+        ∙ ap (λ (b : Bool). moved s (cond b (marked ws p.new) ws) behind) e
+
+    -- a member moves, what is none does not
+    pub moved_in : (ws : List ℕ) {p : Pair} → k < length ps → p ≡ sided_pair back (get_or ps k none) → s.has p.old ≡ true → moved_from ws ≡ moved s (marked ws p.new) behind
+    moved_in ws l q e = one ws l q e
+
+    pub moved_out : (ws : List ℕ) {p : Pair} → k < length ps → p ≡ sided_pair back (get_or ps k none) → s.has p.old ≡ false → moved_from ws ≡ moved s ws behind
+    moved_out ws l q e = one ws l q e
 
     pub moved_over : (ws : List ℕ) → length ps ≤ k → moved_from ws ≡ ws
     unfolding moved
@@ -103,3 +110,10 @@ module _ (back : Bool) (ps : List Pair) (k : ℕ) where
   pub repeated_over : length ps ≤ k → repeated_from ≡ false
   unfolding olds aboves repeats
   repeated_over l = ap (λ (qs : List Pair). repeats (aboves (olds qs))) (over l)
+
+-- the steps of each pass, for the functions that make it
+pub ruleset mark_steps = (marks_here, marks_over)
+
+pub ruleset move_steps = (moved_in, moved_out, moved_over)
+
+pub ruleset repeat_steps = (repeated_here, repeated_below, repeated_over)

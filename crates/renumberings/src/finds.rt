@@ -20,6 +20,7 @@ pub(crate) fn has_beyond<S: Side>(pairs: &[Pair], bits: usize) -> bool
 }
 
 // Whether two old offsets from 65,536 up are equal: each is held against those behind it.
+#[tactic(auto, using(renumber_steps::proofs::PassLaws::repeat_steps))]
 pub(crate) fn repeats_above<S: Side>(pairs: &[Pair]) -> bool
     ensures { result ≡ repeats (aboves (olds (sided S.back pairs.now))) }
 {

@@ -1,15 +1,17 @@
 ghost use Rattle.std.specs.Prelude.{◌≡◌};
 ghost use Rattle.sets.specs.CheckedSets.{members};
+ghost use Rattle.sets.specs.Members.{bit_of};
 ghost use Rattle.renumber_steps.specs.Pairs.{sided, olds};
-ghost use Rattle.renumber_steps.specs.Passes.{Taken, marking, marking_all, moved};
+ghost use Rattle.renumber_steps.specs.Passes.{Taken, marked, marking, moved};
 
 use renumber_steps::{Pair, Side};
 use sets::Checked;
 
 // Makes the bit of an offset 1 where the words have it, and tells whether it was. Asks nothing.
-#[tactic(auto, using(renumber_steps::proofs::MarkLaws::mark_in, renumber_steps::proofs::MarkLaws::mark_out))]
+#[tactic(auto, using(renumber_steps::proofs::MarkLaws::mark_cases))]
 fn mark(words: &mut [u64], offset: u64) -> bool
-    ensures { record { found = result; words = words.new } ≡ marking words.old offset }
+    ensures found { result ≡ bit_of words.old offset }
+    ensures words { words.new ≡ marked words.old offset }
 {
     let k = (offset / 64) as usize;
     if words.len() <= k {
@@ -22,8 +24,9 @@ fn mark(words: &mut [u64], offset: u64) -> bool
 }
 
 // Marks each old offset, up to the first that is marked already; tells whether there is one.
+#[tactic(auto, using(renumber_steps::proofs::PassLaws::mark_steps))]
 pub(crate) fn mark_olds<S: Side>(pairs: &[Pair], marks: &mut [u64]) -> bool
-    ensures { record { found = result; words = marks.new } ≡ marking_all marks.old (olds (sided S.back pairs.now)) }
+    ensures { record { found = result; words = marks.new } ≡ marking marks.old (olds (sided S.back pairs.now)) }
 {
     for pair in pairs {
         if mark(marks, S::sided(*pair).old) {
@@ -34,7 +37,7 @@ pub(crate) fn mark_olds<S: Side>(pairs: &[Pair], marks: &mut [u64]) -> bool
 }
 
 // Whether an offset is a member.
-#[tactic(auto, using(renumber_steps::proofs::MarkLaws::bit_is, sets::proofs::ReadLaws::read_below, sets::proofs::ReadLaws::read_above, sets::proofs::WordLaws::word_of_lem))]
+#[tactic(auto, using(renumber_steps::proofs::MarkLaws::member_cases))]
 fn holds(set: Checked, offset: u64) -> bool
     ensures { result ≡ (members set.entry).has offset }
 {
@@ -45,6 +48,7 @@ fn holds(set: Checked, offset: u64) -> bool
 }
 
 // Marks the new offset of each member.
+#[tactic(auto, using(renumber_steps::proofs::PassLaws::move_steps))]
 pub(crate) fn move_members<S: Side>(set: Checked<'_>, pairs: &[Pair], out: &mut [u64])
     ensures { out.new ≡ moved (members set.entry) out.old (sided S.back pairs.now) }
 {
