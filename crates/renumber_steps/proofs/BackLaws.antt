@@ -8,7 +8,7 @@ use lib.ListN.{length}
 use Rattle.word_bits.proofs.Quantifiers.{all_yes}
 use Rattle.sets.specs.Members.{Members, words_of, read, write}
 use Rattle.sets.specs.Questions.{positions_question, both_questions}
-use Rattle.sets.specs.Outcomes.{Outcome}
+use Rattle.sets.specs.Outcomes.{Outcome, given}
 use Rattle.sets.specs.declared.fixed_bit_set.FixedBitSet.{FixedBitSet}
 use Rattle.sets.specs.declared.answers.Told.{Told}
 use Rattle.sets.proofs.OutcomeLaws.{given_yes, given_no}
@@ -52,10 +52,11 @@ module _ (set : FixedBitSet) (ws : List ℕ) (ps : List Pair) (n : ℕ) (vs us :
       ∙ sym (given_yes (λ m. record { number = m; yes = false }) refl refl) ∙ rewritten set ws us a.good space
 
   -- where the first call was refused
-  pub and-back_no : {r : Told} {m : ℕ} → m ≡ (renumber_rule set ws ps n vs).number → (m ≡ 0 → ⊥) → r ≡ record { number = m; yes = false }
+  pub and-back_no : {r : Told} {m : ℕ} → m ≡ (renumber_rule set ws ps n vs).number → (m ≡ 0 → ⊥)
+      → r ≡ given m (λ k. record { number = k; yes = false }) (came_back set ws (way_back set ws ps n vs us))
       → AndBack set ws ps n vs us r (renumber_rule set ws ps n vs).words us
   and-back_no {r} {m} e h is = record {
-    told = is ∙ given_no (λ k. record { number = k; yes = false }) _ e h;
+    told = is ∙ ap (λ (m : ℕ). given m (λ k. record { number = k; yes = false }) (came_back set ws (way_back set ws ps n vs us))) e;
     out = refl;
     again = given_no (λ k. us) _ e h;
     yes = λ z below space. absurd (h (e ∙ z));

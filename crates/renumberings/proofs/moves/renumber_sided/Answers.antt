@@ -23,10 +23,9 @@ returns-in_err-ask_pairs g c =
 
 pub returns-in_err-renumbered : goal.returns-in_err-renumbered
 returns-in_err-renumbered g c =
-    absurd (number_ne0 _ (ap (λ (o : Outcome). o.number) (c.in_err-renumbered.ensures
-    ∙ made c.args.set c.args.words.now _ _ (first-yes (sym c.in_ok-checked.ensures.number) c.in_ok-check_new.ensures))))
+    absurd (number_ne0 _ (ap (λ (o : Outcome). o.number) (c.in_err-renumbered.ensures ∙ made _ c.in_ok-check_new.ensures)))
 
 pub returns : goal.returns
 returns g c =
-    accepted _ _ _ _ (first-yes (sym c.in_ok-checked.ensures.number) c.in_ok-check_new.ensures) _ _ _ _ c.in_ok-checked.ensures.same
-    c.in_ok-ask_pairs.ensures c.in_ok-renumbered.ensures c.move_members.ensures
+    let checked = c.in_ok-checked.ensures in
+    accepted _ _ _ _ _ _ _ _ checked.number checked.same c.in_ok-check_new.ensures c.in_ok-ask_pairs.ensures c.in_ok-renumbered.ensures c.move_members.ensures

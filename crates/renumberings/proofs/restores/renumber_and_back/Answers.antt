@@ -1,12 +1,9 @@
-use Rattle.std.proofs.Common.{◌≡◌, ℕ, List, Bool, false, refl, sym, ap, subst, ◌∙◌, Result}
-use Rattle.std.specs.Result.{IsErrAnd}
-use Rattle.std.proofs.lemmas.Result.{err_from_is_err_and}
+use Rattle.std.proofs.Common.{◌≡◌, ℕ, List, false, refl, sym, ap, subst, ◌∙◌}
 use Rattle.sets.specs.Members.{set_of, empty}
-use Rattle.sets.specs.Refusals.{number, told_of}
-use Rattle.sets.specs.declared.refusal.Refusal.{Refusal}
+use Rattle.sets.specs.Refusals.{number}
 use Rattle.sets.proofs.OutcomeLaws.{given_yes}
 use Rattle.sets.proofs.RefusalLaws.{number_ne0, answer_refused}
-use Rattle.sets.specs.Outcomes.{Outcome, outcome}
+use Rattle.sets.specs.Outcomes.{Outcome, outcome, given}
 use Rattle.sets.specs.declared.fixed_bit_set.FixedBitSet.{FixedBitSet}
 use Rattle.sets.specs.declared.answers.Edited.{Edited}
 use Rattle.sets.specs.declared.answers.Told.{Told}
@@ -19,7 +16,7 @@ use Rattle.renumberings.proofs.restores.renumber_and_back.Goals as goal
 
 -- what the calls say, as the contract
 module _ (set : FixedBitSet) (ws : List ℕ) (ps : List Pair) (n : ℕ) (vs us : List ℕ) (moved : Edited) (zs : List ℕ) (r : Told) (e : outcome moved zs ≡ renumber_rule set ws ps n vs) where
-  said_no : (moved.number ≡ 0 → ⊥) → r ≡ record { number = moved.number; yes = false } → AndBack set ws ps n vs us r zs us
+  said_no : (moved.number ≡ 0 → ⊥) → r ≡ given moved.number (λ m. record { number = m; yes = false }) (came_back set ws (way_back set ws ps n vs us)) → AndBack set ws ps n vs us r zs us
   said_no h is = subst (λ (ys : List ℕ). AndBack set ws ps n vs us r ys us) (sym (ap (λ (o : Outcome). o.words) e)) (and-back_no set ws ps n vs us (ap (λ (o : Outcome). o.number) e) h is)
 
   said_yes : (back : Edited) (ys : List ℕ) → moved.number ≡ 0 → outcome back ys ≡ renumber_rule moved.set zs (swapped ps) set.length us → r ≡ came_back set ws (outcome back ys) → AndBack set ws ps n vs us r zs ys
@@ -29,17 +26,11 @@ module _ (set : FixedBitSet) (ws : List ℕ) (ps : List Pair) (n : ℕ) (vs us :
       (subst (λ (os : List ℕ). AndBack set ws ps n vs us r (renumber_rule set ws ps n vs).words os) (sym (ap (λ (o : Outcome). o.words) way))
       (and-back-yes set ws ps n vs us (sym (ap (λ (o : Outcome). o.number) e) ∙ z) (is ∙ ap (came_back set ws) way)))
 
--- a refusal that is handed on
-told_no : (r : Result Bool Refusal) (e : Refusal) → IsErrAnd r (λ d. d ≡ e) → told_of r ≡ record { number = number e; yes = false }
-told_no r e passed =
-    let p = err_from_is_err_and r passed in
-    ap told_of p.1 ∙ ap (λ (d : Refusal). record { number = number d; yes = false }) p.2
-
 pub returns-in_err-moved : goal.returns-in_err-moved
 returns-in_err-moved c =
     let a = c.args in
     said_no a.set a.words.now a.pairs.now a.bits a.out.now a.again.now (record { number = number c.in_err-moved.field-0.0; set = set_of (empty 0) }) _ _ c.in_err-moved.ensures
-    (number_ne0 c.in_err-moved.field-0.0) (told_no _ _ c.from_residual.ensures.1)
+    (number_ne0 c.in_err-moved.field-0.0) (answer_refused _ _ _ _ _ c.from_residual.ensures.1 refl)
 
 pub returns-in_err-back : goal.returns-in_err-back
 unfolding came_back
