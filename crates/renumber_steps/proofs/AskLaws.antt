@@ -9,7 +9,6 @@ use borrow.Author.Tests.{le-leb, lt-leb}
 use lib.Dec.{leb}
 use lib.ListN.{length}
 use Rattle.std.specs.List.{list_any}
-use Rattle.std.proofs.lemmas.List.{length-replicate, get_or-replicate}
 use Rattle.word_bits.specs.Counts.{some, all}
 use Rattle.word_bits.proofs.Order.{lt-or-le}
 use Rattle.sets.specs.Members.{Members, words_of, read, write, empty, set_of}
@@ -20,17 +19,17 @@ use Rattle.sets.specs.declared.answers.Told.{Told}
 use Rattle.sets.proofs.OutcomeLaws.{given_yes, edited_no}
 use Rattle.sets.proofs.QuestionLaws.{Valid, valid, valid_yes, first_no, first-yes, first-both, position_yes, position_no, room}
 use Rattle.sets.proofs.ReadLaws.{write_valid}
-use Rattle.sets.proofs.WriteLaws.{Clipped, read-write, write_is}
-use Rattle.sets.proofs.ZeroLaws.{no_members}
+use Rattle.sets.proofs.WriteLaws.{Clipped, read-write}
 use Rattle.comparisons.specs.Relations.{subset}
 use Rattle.comparisons.specs.Rules.{is_subset_rule}
 use Rattle.edits.specs.Edits.{is_in}
 use Rattle.renumber_steps.specs.Pairs.{olds, news, repeats, renumbered, sided_pair, sided}
 use Rattle.renumber_steps.specs.Rules.{olds_question, news_question, members_question, pairs_questions, renumber_questions, renumber_rule}
-use Rattle.renumber_steps.specs.Passes.{Taken, aboves, marking, moved, no_marks, shared, pairs_number}
+use Rattle.renumber_steps.specs.Passes.{aboves, moved, no_marks, shared, pairs_number}
 use Rattle.renumber_steps.specs.declared.pair.Pair.{Pair}
 use Rattle.renumber_steps.proofs.RepeatLaws.{hits, marks, hits_repeats, marks_len, marks_clipped, marks_has}
-use Rattle.renumber_steps.proofs.RunLaws.{marked_run, moved_all}
+use Rattle.renumber_steps.proofs.RunLaws.{moved_all}
+use Rattle.renumber_steps.proofs.SharedLaws.{no_marks_long, none_clipped, shared-found, shared-words}
 
 -- ---- the sides
 
@@ -40,33 +39,6 @@ unfolding olds news sided sided_pair
 sides back [] = refl
 sides true (p ∷ ps) = ap (λ (l : List ℕ). p.old ∷ l) (sides true ps)
 sides false (p ∷ ps) = ap (λ (l : List ℕ). p.new ∷ l) (sides false ps)
-
--- ---- 10 and 11
-
-pub no_marks_long : length no_marks ≡ 1024
-unfolding no_marks
-no_marks_long = length-replicate {A = ℕ} 1024 0
-
-unmarked : no_marks ≡ write no_marks (empty 65536)
-unfolding no_marks words_of
-unmarked =
-    write_is no_marks (empty 65536) no_marks (rw no_marks_long (omega arith)) refl
-    (λ k h. get_or-replicate 1024 k 0 0 (omega arith) ∙ no_members (λ p. false) k (λ j l. refl)) (λ k h. refl)
-
-none_clipped : (n : ℕ) → Clipped (empty n)
-none_clipped n = record { above = λ p h. refl }
-
-module _ (xs : List ℕ) where
-  pub run : marking no_marks xs ≡ record { found = hits (empty 65536) xs; words = write no_marks (marks (empty 65536) xs) }
-  run = ap (λ (l : List ℕ). marking l xs) unmarked ∙ marked_run no_marks xs (empty 65536) (none_clipped 65536) refl no_marks_long
-
-  shared-found : (shared xs).found ≡ repeats xs
-  unfolding shared
-  shared-found = ap (λ (t : Taken). t.found || repeats (aboves xs)) run ∙ hits_repeats xs
-
-  shared-words : (shared xs).words ≡ write no_marks (marks (empty 65536) xs)
-  unfolding shared
-  shared-words = ap (λ (t : Taken). t.words) run
 
 -- ---- 4
 

@@ -3,6 +3,7 @@ pub mod Examples
 pub mod MarkLaws
 pub mod RepeatLaws
 pub mod RunLaws
+pub mod SharedLaws
 pub mod AskLaws
 pub mod AllMarked
 pub mod PairListLaws
