@@ -5,7 +5,7 @@ use Rattle.sets.specs.Questions.{part_question}
 use Rattle.two_set_counts.specs.Lists.{ones_list, difference_list}
 use Rattle.whole_walks.specs.declared.whole.Records.{Records}
 use Rattle.whole_walks.specs.declared.walk.Walk.TheVariants.{Difference}
-use Rattle.listings.specs.Pages.{all_offsets, first_records, walk_left, first_walk, rest_text}
+use Rattle.listings.specs.Pages.{all_offsets, offsets_of, first_records, walk_left, first_walk, rest_text}
 use Rattle.listings.specs.Fills.{Filled}
 use Rattle.listing_lines.specs.Listings.{is_missing, has_of, lacks_of}
 use Rattle.listing_lines.specs.declared.lines.Missing.{Missing}
@@ -82,6 +82,12 @@ pub record Able (job : Job) (name other : List ℕ) (a b : Members) (page : Page
 pub record PieceSure (job : Job) (a b : Members) (r : Piece Stage Records) : Type 0 where
   pub whole : r.whole ≡ true
   pub ready : Ready job a b r.page
+
+-- a piece of two sets by their words: it is right, and sure where the page is ready
+abbrev pub PieceWell : Job → (name other ws vs : List ℕ) → Page Stage Records → List ℕ → Piece Stage Records → Type 0
+PieceWell job name other ws vs page out r =
+    PieceRight job name other (offsets_of ws) (offsets_of vs) page out r
+    × (Able job name other (offsets_of ws) (offsets_of vs) page out → PieceSure job (offsets_of ws) (offsets_of vs) r)
 
 -- a run of pieces that are whole, each from the page that the one before it left, until nothing is left to write: the bytes of each
 pub data Run (job : Job) (name other : List ℕ) (a b : Members) : Page Stage Records → List (List ℕ) → Type 0 where

@@ -4,6 +4,8 @@
 mod pages;
 mod set_pairs;
 mod verdicts;
+mod writing;
 
-pub use pages::{first_page, next_piece};
+pub use pages::first_page;
 pub use verdicts::same_offsets;
+pub use writing::next_piece;

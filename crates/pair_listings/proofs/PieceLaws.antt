@@ -22,8 +22,8 @@ use Rattle.next_many.specs.declared.answers.NextMany.{NextMany}
 use Rattle.pair_listings.specs.Tables.{offsets_of}
 use Rattle.pair_listings.specs.Lines.{pair_lines_text, pairs_complete_text}
 use Rattle.pair_listings.specs.Pages.{last_text, lines_text, members_left, stage_text, rest_text}
-use Rattle.listing_lines.specs.Pieces.{Piece, piece_of}
-use Rattle.pair_listings.specs.Pieces.{stage_number, page_after, PieceRight, Ready, Able, PieceSure}
+use Rattle.listing_lines.specs.Pieces.{piece_of}
+use Rattle.pair_listings.specs.Pieces.{stage_number, page_after, PieceRight, Ready, Able, PieceWell}
 use Rattle.pair_listings.specs.declared.jobs.Job.{Job}
 use Rattle.listing_lines.specs.declared.pages.Page.{Page}
 use Rattle.sets.specs.declared.answers.Part.{Part}
@@ -37,15 +37,12 @@ module _ (job : Job) (table : ℕ → ℕ) (ws : List ℕ) (page : Page Stage Pa
   abbrev s : Members
   s = offsets_of ws
 
-  abbrev PieceWell : List ℕ → Piece Stage Part → Type 0
-  PieceWell out r = PieceRight job table s page out r × (Able s page out → PieceSure s r)
-
   -- ---- a piece that is not whole, which no page that is ready comes to
 
   pub none_right : {out : List ℕ} → PieceRight job table s page out (piece_of page None)
   none_right = record { fits = omega arith; text = λ w. absurd (false≢true w); later = λ w. absurd (false≢true w); moves = λ w i. absurd (false≢true w) }
 
-  pub no_piece : {out : List ℕ} → (Able s page out → ⊥) → PieceWell out (piece_of page None)
+  pub no_piece : {out : List ℕ} → (Able s page out → ⊥) → PieceWell job table ws page out (piece_of page None)
   no_piece f = (none_right, λ a. absurd (f a))
 
   -- ---- lines
@@ -107,8 +104,8 @@ module _ (job : Job) (table : ℕ → ℕ) (ws : List ℕ) (page : Page Stage Pa
           omega (arith, e, few, appended_end put empty (omega (arith, e, few, appended_same put empty)))
 
       pub lines_piece : {out : List ℕ} → out ≡ after.out.now → page.stage ≡ Lines → after.end < length after.out.now → {p : Page Stage Part} → p ≡ next
-          → PieceWell out (record { length = after.end; page = p; whole = true })
-      lines_piece o e l {p} f = subst⁻¹ (λ (xs : List ℕ). PieceWell xs (record { length = after.end; page = p; whole = true })) o (subst⁻¹ (λ (p : Page Stage Part). PieceWell after.out.now (record { length = after.end; page = p; whole = true })) f (
+          → PieceWell job table ws page out (record { length = after.end; page = p; whole = true })
+      lines_piece o e l {p} f = subst⁻¹ (λ (xs : List ℕ). PieceWell job table ws page xs (record { length = after.end; page = p; whole = true })) o (subst⁻¹ (λ (p : Page Stage Part). PieceWell job table ws page after.out.now (record { length = after.end; page = p; whole = true })) f (
         record {
           fits = omega arith;
           text = λ w.
@@ -149,9 +146,9 @@ module _ (job : Job) (table : ℕ → ℕ) (ws : List ℕ) (page : Page Stage Pa
     last_room o m = let e = ap length o in omega (arith, e, last_most, appended_end d empty (omega (arith, e, last_most, appended_same d empty)))
 
     pub last_piece : {out : List ℕ} → out ≡ after.out.now → page.stage ≡ Last → after.end < length after.out.now
-        → PieceWell out (record { length = after.end; page = record { stage = Over; records = page.records; place = page.place }; whole = true })
+        → PieceWell job table ws page out (record { length = after.end; page = record { stage = Over; records = page.records; place = page.place }; whole = true })
     unfolding stage_text
-    last_piece o e l = subst⁻¹ (λ (xs : List ℕ). PieceWell xs (record { length = after.end; page = record { stage = Over; records = page.records; place = page.place }; whole = true })) o (
+    last_piece o e l = subst⁻¹ (λ (xs : List ℕ). PieceWell job table ws page xs (record { length = after.end; page = record { stage = Over; records = page.records; place = page.place }; whole = true })) o (
       record {
         fits = omega arith;
         text = λ w. append-nil (take after.end after.out.now) ∙ appended_whole d empty (appended_room d empty l) ∙ sym (ap (λ (x : Stage). stage_text x job table s page.records page.place) e);
@@ -163,7 +160,7 @@ module _ (job : Job) (table : ℕ → ℕ) (ws : List ℕ) (page : Page Stage Pa
 
   -- ---- nothing is left to write
 
-  pub over_piece : {out : List ℕ} → page.stage ≡ Over → PieceWell out (record { length = 0; page = page; whole = true })
+  pub over_piece : {out : List ℕ} → page.stage ≡ Over → PieceWell job table ws page out (record { length = 0; page = page; whole = true })
   over_piece e = (
     record { fits = omega arith; text = λ w. refl; later = λ w. le_refl (stage_number page.stage); moves = λ w i. absurd (none (subst (λ (x : Stage). stage_number x < 2) e i)) },
     λ a. record { whole = refl; ready = a.ready },

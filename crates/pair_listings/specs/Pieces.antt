@@ -3,7 +3,7 @@ use Rattle.std.specs.Prelude.{◌≡◌, true, cond, List, [], ◌∷◌, ◌++�
 use Rattle.sets.specs.Members.{Members}
 use Rattle.sets.specs.Questions.{part_question}
 use Rattle.sets.specs.declared.answers.Part.{Part}
-use Rattle.pair_listings.specs.Tables.{all_offsets}
+use Rattle.pair_listings.specs.Tables.{all_offsets, offsets_of}
 use Rattle.pair_listings.specs.Pages.{members_left, rest_text}
 use Rattle.listing_lines.specs.Pieces.{Piece}
 use Rattle.pair_listings.specs.declared.jobs.Job.{Job}
@@ -46,6 +46,10 @@ pub record Able (s : Members) (page : Page Stage Part) (out : List ℕ) : Type 0
 pub record PieceSure (s : Members) (r : Piece Stage Part) : Type 0 where
   pub whole : r.whole ≡ true
   pub ready : Ready s r.page
+
+-- a piece of a set by its words: it is right, and sure where the page is ready
+abbrev pub PieceWell : Job → (ℕ → ℕ) → List ℕ → Page Stage Part → List ℕ → Piece Stage Part → Type 0
+PieceWell job table ws page out r = PieceRight job table (offsets_of ws) page out r × (Able (offsets_of ws) page out → PieceSure (offsets_of ws) r)
 
 -- a run of pieces that are whole, each from the page that the one before it left, until nothing is left to write: the bytes of each
 pub data Run (job : Job) (table : ℕ → ℕ) (s : Members) : Page Stage Part → List (List ℕ) → Type 0 where

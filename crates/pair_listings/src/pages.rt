@@ -4,7 +4,7 @@ ghost use Rattle.sets.specs.Questions.{questions};
 ghost use Rattle.pair_listings.specs.Tables.{all_offsets, offsets_of, entry_of};
 ghost use Rattle.pair_listings.specs.Pages.{last_text, first_page};
 ghost use Rattle.listing_lines.specs.Pieces.{piece_of};
-ghost use Rattle.pair_listings.specs.Pieces.{page_after, PieceRight, Able, PieceSure};
+ghost use Rattle.pair_listings.specs.Pieces.{page_after, PieceRight, Able, PieceSure, PieceWell};
 
 use crate::jobs::{Job, Page, Stage, Written};
 use crate::lines::{append_pair_lines, append_pairs_complete};
@@ -55,7 +55,7 @@ fn next_lines(
     out: &mut [u8],
 ) -> Option<Written>
     requires { page.stage ≡ Stage.Lines }
-    ensures { PieceRight job (entry_of table.now) (offsets_of set.entry.words.now) page out.new (piece_of page result) × (Able (offsets_of set.entry.words.now) page out.new → PieceSure (offsets_of set.entry.words.now) (piece_of page result)) }
+    ensures { PieceWell job (entry_of table.now) set.entry.words.now page out.new (piece_of page result) }
 {
     let places = Places {
         sheet: job.sheet,
@@ -100,7 +100,7 @@ fn last_line(
     out: &mut [u8],
 ) -> Option<Written>
     requires { page.stage ≡ Stage.Last }
-    ensures { PieceRight job (entry_of table.now) (offsets_of set.entry.words.now) page out.new (piece_of page result) × (Able (offsets_of set.entry.words.now) page out.new → PieceSure (offsets_of set.entry.words.now) (piece_of page result)) }
+    ensures { PieceWell job (entry_of table.now) set.entry.words.now page out.new (piece_of page result) }
 {
     let mut text = Text::new(out);
     append_last(&mut text, job, set);

@@ -2,7 +2,7 @@ use mathlib.Core.Path.{◌∙◌}
 use Rattle.sets.proofs.RefusalLaws.{number_ne0}
 use Rattle.listing_pieces.proofs.PieceLaws.{over_piece, no_piece}
 use Rattle.listing_pieces.proofs.SureLaws.{over_sure}
-use Rattle.listing_pieces.proofs.pages.next_piece.Goals as goal
+use Rattle.listing_pieces.proofs.writing.next_piece.Goals as goal
 
 pub returns-in_default : goal.returns-in_default
 returns-in_default c = (no_piece _ _ _ _ _, λ ok x. absurd (number_ne0 _ (c.in_default.ensures.number ∙ ok)))

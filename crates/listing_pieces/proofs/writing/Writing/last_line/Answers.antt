@@ -2,7 +2,7 @@ use borrow.Author.Rules.{rules}
 use native.Mathlib.Omega.{arith}
 use Rattle.listing_pieces.proofs.PieceLaws.{last_piece, no_piece}
 use Rattle.listing_pieces.proofs.SureLaws.{last_room, last_sure}
-use Rattle.listing_pieces.proofs.pages.last_line.Goals as goal
+use Rattle.listing_pieces.proofs.writing.Writing.last_line.Goals as goal
 
 pub returns-then-text : goal.returns-then-text
 returns-then-text c = (
