@@ -12,9 +12,9 @@ use Rattle.std.specs.Cmp.Lexicographic.{pointwise, same_text, other_text}
 use Rattle.word_bits.specs.Counts.{all}
 use Rattle.word_bits.proofs.Digits.{digits_ext}
 use Rattle.word_bits.proofs.Quantifiers.{all_yes, each_of}
-use Rattle.sets.specs.Checks.{Sound}
+use Rattle.sets.specs.CheckedSets.{members}
+use Rattle.sets.specs.declared.checked.Checked.{Checked}
 use Rattle.sets.specs.Members.{words_of, bit_of, read}
-use Rattle.sets.specs.declared.fixed_bit_set.FixedBitSet.{FixedBitSet}
 use Rattle.sets.proofs.ReadLaws.{read_above}
 use Rattle.sets.proofs.WordLaws.{bit_at, words_hold}
 use Rattle.tests.proofs.RowLaws.{all-not-some, some_ext, some_clip}
@@ -22,10 +22,10 @@ use Rattle.operations.proofs.BlockJoins.{Words}
 use Rattle.comparisons.specs.Orders.{equal}
 use Rattle.comparisons.proofs.RelationLaws.{own_bit}
 
-pub equal_no : (a : FixedBitSet) (ws : List ℕ) (b : FixedBitSet) (vs : List ℕ) → (a.length ≡ b.length → ⊥) → false ≡ equal (read ws a) (read vs b)
+pub equal_no : (a b : Checked) → (a.length ≡ b.length → ⊥) → false ≡ equal (members a) (members b)
 unfolding read
-equal_no a ws b vs n =
-    ap (λ (t : Bool). t && all a.length (λ p. beq ((read ws a).has p) ((read vs b).has p))) (sym (ne_eqb a.length b.length n))
+equal_no a b n =
+    ap (λ (t : Bool). t && all a.length (λ p. beq ((members a).has p) ((members b).has p))) (sym (ne_eqb a.length b.length n))
 
 beq_self : (x : Bool) → beq x x ≡ true
 beq_self true = refl
@@ -54,19 +54,19 @@ module _ (ws vs : List ℕ) (fw : Words ws) (fv : Words vs) (long : length ws �
       none true y = absurd (other_text ws vs q (words_same (λ p h. same_of (bit_of ws p) (bit_of vs p) (each_of (length ws * 64) (λ i. beq (bit_of ws i) (bit_of vs i)) y p h))))
       none false y = refl
 
-module _ (a : FixedBitSet) (ws : List ℕ) (b : FixedBitSet) (vs : List ℕ) (sa : Sound a.length ws) (sb : Sound b.length vs) (e : a.length ≡ b.length) where
-  all_member : all (length ws * 64) (λ p. beq (bit_of ws p) (bit_of vs p)) ≡ all a.length (λ p. beq ((read ws a).has p) ((read vs b).has p))
+module _ (a b : Checked) (e : a.length ≡ b.length) where
+  all_member : all (length a.words.now * 64) (λ p. beq (bit_of a.words.now p) (bit_of b.words.now p)) ≡ all a.length (λ p. beq ((members a).has p) ((members b).has p))
   all_member =
-      all-not-some (length ws * 64) (λ p. beq (bit_of ws p) (bit_of vs p)) (λ p. not (beq (bit_of ws p) (bit_of vs p))) (λ p l. sym (not-not (beq (bit_of ws p) (bit_of vs p))))
+      all-not-some (length a.words.now * 64) (λ p. beq (bit_of a.words.now p) (bit_of b.words.now p)) (λ p. not (beq (bit_of a.words.now p) (bit_of b.words.now p))) (λ p l. sym (not-not (beq (bit_of a.words.now p) (bit_of b.words.now p))))
       ∙ ap not
-      (some_ext (length ws * 64) (λ p. not (beq (bit_of ws p) (bit_of vs p))) (λ p. not (beq ((read ws a).has p) ((read vs b).has p)))
-      (λ p l. ap₂ (λ (x y : Bool). not (beq x y)) (own_bit a ws sa p) (own_bit b vs sb p))
-      ∙ some_clip (λ p. not (beq ((read ws a).has p) ((read vs b).has p))) a.length
-      (λ p h. ap₂ (λ (x y : Bool). not (beq x y)) (read_above ws a p h) (read_above vs b p (omega (arith, e, h)))) (length ws * 64) (omega (arith, sa.own, words_hold a.length)))
-      ∙ sym (all-not-some a.length (λ p. beq ((read ws a).has p) ((read vs b).has p)) (λ p. not (beq ((read ws a).has p) ((read vs b).has p))) (λ p l. sym (not-not (beq ((read ws a).has p) ((read vs b).has p)))))
+      (some_ext (length a.words.now * 64) (λ p. not (beq (bit_of a.words.now p) (bit_of b.words.now p))) (λ p. not (beq ((members a).has p) ((members b).has p)))
+      (λ p l. ap₂ (λ (x y : Bool). not (beq x y)) (own_bit a p) (own_bit b p))
+      ∙ some_clip (λ p. not (beq ((members a).has p) ((members b).has p))) a.length
+      (λ p h. ap₂ (λ (x y : Bool). not (beq x y)) (read_above a.words.now (record { length = a.length }) p h) (read_above b.words.now (record { length = b.length }) p (omega (arith, e, h)))) (length a.words.now * 64) (omega (arith, a.sound.own, words_hold a.length)))
+      ∙ sym (all-not-some a.length (λ p. beq ((members a).has p) ((members b).has p)) (λ p. not (beq ((members a).has p) ((members b).has p))) (λ p l. sym (not-not (beq ((members a).has p) ((members b).has p)))))
 
-  pub equal_is : (t : Bool) → (length ws ≡ length vs → t ≡ all (length ws * 64) (λ p. beq (bit_of ws p) (bit_of vs p))) → t ≡ equal (read ws a) (read vs b)
+  pub equal_is : (t : Bool) → (length a.words.now ≡ length b.words.now → t ≡ all (length a.words.now * 64) (λ p. beq (bit_of a.words.now p) (bit_of b.words.now p))) → t ≡ equal (members a) (members b)
   unfolding read
   equal_is t h =
-      h (sa.own ∙ ap words_of e ∙ sym sb.own) ∙ all_member
-      ∙ ap (λ (s : Bool). s && all a.length (λ p. beq ((read ws a).has p) ((read vs b).has p))) (sym (eq-eqb a.length b.length e))
+      h (a.sound.own ∙ ap words_of e ∙ sym b.sound.own) ∙ all_member
+      ∙ ap (λ (s : Bool). s && all a.length (λ p. beq ((members a).has p) ((members b).has p))) (sym (eq-eqb a.length b.length e))

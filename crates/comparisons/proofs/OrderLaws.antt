@@ -17,9 +17,9 @@ use Rattle.std.specs.declared.cmp.Ordering.TheVariants.{Less, Equal, Greater}
 use Rattle.word_bits.specs.Digits.{word_of}
 use Rattle.word_bits.proofs.Digits.{word_is}
 use Rattle.word_bits.proofs.Order.{lt-or-le}
-use Rattle.sets.specs.Checks.{Sound}
+use Rattle.sets.specs.CheckedSets.{members}
+use Rattle.sets.specs.declared.checked.Checked.{Checked}
 use Rattle.sets.specs.Members.{words_of, bit_of, read}
-use Rattle.sets.specs.declared.fixed_bit_set.FixedBitSet.{FixedBitSet}
 use Rattle.sets.proofs.WordLaws.{bit_at}
 use Rattle.operations.proofs.BlockJoins.{Words}
 use Rattle.comparisons.specs.Compares.{order_number}
@@ -90,16 +90,14 @@ order_bits ws vs fw fv e =
     (λ i l. word_is (bit_of ws) i (get_or ws i 0) (fw.fits i) (λ j h. sym (bit_at ws i j h)) ∙ ap (word_of (bit_of ws)) (sym (zero-add i)))
     (λ i l. word_is (bit_of vs) i (get_or vs i 0) (fv.fits i) (λ j h. sym (bit_at vs i j h)) ∙ ap (word_of (bit_of vs)) (sym (zero-add i)))
 
-module _ (a : FixedBitSet) (ws : List ℕ) (b : FixedBitSet) (vs : List ℕ) (sa : Sound a.length ws) (sb : Sound b.length vs) where
-  pub as_long : a.length ≡ b.length → (m : ℕ) → (length ws ≡ length vs → m ≡ words_order 0 (length ws) (bit_of ws) (bit_of vs)) → m ≡ order (read ws a) (read vs b)
-  unfolding read
-  as_long e m h =
-      h (sa.own ∙ ap words_of e ∙ sym sb.own)
-      ∙ ap₂ (words_order 0 (length ws)) (fun_ext (own_bit a ws sa)) (fun_ext (own_bit b vs sb))
-      ∙ ap (λ (n : ℕ). words_order 0 n (read ws a).has (read vs b).has) sa.own
-      ∙ sym (order_same a.length b.length (words_order 0 (words_of a.length) (read ws a).has (read vs b).has) e)
-
-pub lengths_differ : (a : FixedBitSet) (ws : List ℕ) (b : FixedBitSet) (vs : List ℕ) → (nat_cmp a.length b.length ≡ Equal → ⊥)
-    → order_number (nat_cmp a.length b.length) ≡ order (read ws a) (read vs b)
+pub as_long : (a b : Checked) → a.length ≡ b.length → (m : ℕ) → (length a.words.now ≡ length b.words.now → m ≡ words_order 0 (length a.words.now) (bit_of a.words.now) (bit_of b.words.now)) → m ≡ order (members a) (members b)
 unfolding read
-lengths_differ a ws b vs n = unequal a.length b.length (words_order 0 (words_of a.length) (read ws a).has (read vs b).has) n
+as_long a b e m h =
+    h (a.sound.own ∙ ap words_of e ∙ sym b.sound.own)
+    ∙ ap₂ (words_order 0 (length a.words.now)) (fun_ext (own_bit a)) (fun_ext (own_bit b))
+    ∙ ap (λ (n : ℕ). words_order 0 n (members a).has (members b).has) a.sound.own
+    ∙ sym (order_same a.length b.length (words_order 0 (words_of a.length) (members a).has (members b).has) e)
+
+pub lengths_differ : (a b : Checked) → (nat_cmp a.length b.length ≡ Equal → ⊥) → order_number (nat_cmp a.length b.length) ≡ order (members a) (members b)
+unfolding read
+lengths_differ a b n = unequal a.length b.length (words_order 0 (words_of a.length) (members a).has (members b).has) n

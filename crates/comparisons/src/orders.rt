@@ -11,7 +11,7 @@ ghost use Rattle.comparisons.specs.Rules.{eq_rule, cmp_rule};
 use sets::{Checked, FixedBitSet, Refusal};
 use std::cmp::Ordering;
 
-// The order is 0 for equal, 1 for below, 2 for above, and 0 where refused.
+// An order as C takes it, with its number: it is 0 for equal, 1 for below, 2 for above, and 0 where refused.
 #[repr(C)]
 #[derive(Clone, Copy)]
 pub struct Compared {

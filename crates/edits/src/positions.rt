@@ -8,7 +8,7 @@ ghost use Rattle.edits.specs.Rules.{at_position, insert_rule, remove_rule, toggl
 use changes::{Change, change_word};
 use sets::{FixedBitSet, Refusal, member};
 
-// The answer of `put` as a record.
+// The answer of `put` as C takes it, with its number.
 #[repr(C)]
 #[derive(Clone, Copy)]
 pub struct Replaced {

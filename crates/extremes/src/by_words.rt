@@ -7,7 +7,7 @@ use sets::{FixedBitSet, Refusal, blocks_of};
 use tests::first_other;
 use word_bits::{leading_zeros, trailing_zeros};
 
-// One above the last word of 0..end that is not 0: 0 where there is none.
+// One above the last word of 0..end that is not 0: 0 where there is none. A loop that yields by `break`: the specification names it.
 fn above_last(words: &[u64], end: usize) -> usize
     requires { end ≤ length words.now }
     ensures { result ≡ end - zeros_above end (λ (k : ℕ). not (eqb (get_or words.now k 0) 0)) }

@@ -11,7 +11,7 @@ pub struct Run {
     pub count: usize,
 }
 
-// The answer of a run as a record.
+// The answer of a run as C takes it, with its number.
 #[repr(C)]
 #[derive(Clone, Copy)]
 pub struct Ran {

@@ -18,7 +18,7 @@ pub struct ManyPair {
     pub two: Part,
 }
 
-// Each as a record, with its number.
+// Each as C takes it, with its number.
 #[repr(C)]
 #[derive(Clone, Copy)]
 pub struct NextMany {

@@ -29,6 +29,7 @@ pub(crate) fn fill<S: Select>(
     let mut count = 0;
     let mut low = low;
     loop {
+        // One bit after the other off the word: no index to count.
         while rest != 0 {
             let p = k * 64 + trailing_zeros(rest);
             if high <= p {

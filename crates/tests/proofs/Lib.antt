@@ -1,3 +1,4 @@
+pub mod AnswerLaws
 pub mod RowLaws
 pub mod ScanLaws
 pub mod PartLaws

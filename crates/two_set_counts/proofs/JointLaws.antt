@@ -1,7 +1,6 @@
 -- The members of two joined sets: those in the words of both, and those beyond. Assumes nothing.
 use mathlib.Core.Path.{◌≡◌, refl, sym, ap, ap₂, ◌∙◌}
 use mathlib.Core.Bool.{Bool, true, false, cond}
-use mathlib.Core.List.{List}
 use mathlib.Core.Logic.{◌⊎◌, inl, inr}
 use Prim.Native.Nat.{ℕ, ◌+◌, ◌-◌, ◌*◌, ◌≤◌, ◌<◌, min, max}
 use native.Mathlib.Nat.{add-zero, zero-add}
@@ -11,8 +10,8 @@ use Rattle.word_bits.specs.Counts.{count}
 use Rattle.word_bits.proofs.Ones.{count_add, count_ext, count_none, count-le}
 use Rattle.word_bits.proofs.Order.{lt-or-le}
 use Rattle.sets.specs.Members.{Members, bit_of, read}
-use Rattle.sets.specs.Checks.{Sound}
-use Rattle.sets.specs.declared.fixed_bit_set.FixedBitSet.{FixedBitSet}
+use Rattle.sets.specs.CheckedSets.{members}
+use Rattle.sets.specs.declared.checked.Checked.{Checked}
 use Rattle.sets.proofs.QuestionLaws.{valid}
 use Rattle.sets.proofs.ReadLaws.{read_bit, read_clipped}
 use Rattle.sets.proofs.WordLaws.{words_hold}
@@ -76,26 +75,26 @@ module _ (op : Operation) (s o : Members) (cs : Clipped s) (co : Clipped o) wher
 
 -- ---- two sets that pass questions 1 to 3, with their own words
 
-module _ (op : Operation) (a : FixedBitSet) (ws : List ℕ) (b : FixedBitSet) (vs : List ℕ) (sa : Sound a.length ws) (sb : Sound b.length vs) where
+module _ (op : Operation) (a b : Checked) where
   -- how many words both have
   shared : ℕ
-  shared = min (length ws) (length vs)
+  shared = min (length a.words.now) (length b.words.now)
 
-  side : (length ws < length vs) ⊎ (length vs ≤ length ws) → (a.length ≤ shared * 64) ⊎ (b.length ≤ shared * 64)
+  side : (length a.words.now < length b.words.now) ⊎ (length b.words.now ≤ length a.words.now) → (a.length ≤ shared * 64) ⊎ (b.length ≤ shared * 64)
   unfolding shared
-  side (inl l) = inl (omega (arith, sa.own, words_hold a.length))
-  side (inr l) = inr (omega (arith, sb.own, words_hold b.length))
+  side (inl l) = inl (omega (arith, a.sound.own, words_hold a.length))
+  side (inr l) = inr (omega (arith, b.sound.own, words_hold b.length))
 
-  pub two_counts : count (min (length ws) (length vs) * 64) (λ p. joined op (bit_of ws p) (bit_of vs p)) + ones_beyond op (min (length ws) (length vs) * 64) (read ws a) (read vs b)
-      ≡ joint_ones op (read ws a) (read vs b)
+  pub two_counts : count (min (length a.words.now) (length b.words.now) * 64) (λ p. joined op (bit_of a.words.now p) (bit_of b.words.now p)) + ones_beyond op (min (length a.words.now) (length b.words.now) * 64) (members a) (members b)
+      ≡ joint_ones op (members a) (members b)
   unfolding joined_at shared read
   two_counts =
-      ap (λ (x : ℕ). x + ones_beyond op (shared * 64) (read ws a) (read vs b))
-      (count_ext (shared * 64) (λ p. joined op (bit_of ws p) (bit_of vs p)) (λ p. joined op ((read ws a).has p) ((read vs b).has p))
-      (λ p l. ap₂ (joined op) (sym (read_bit a ws (valid a ws sa.asked) p (omega (arith, sa.own)))) (sym (read_bit b vs (valid b vs sb.asked) p (omega (arith, sb.own))))))
-      ∙ two_parts op (read ws a) (read vs b) (read_clipped ws a) (read_clipped vs b) (shared * 64) (side (lt-or-le (length ws) (length vs)))
+      ap (λ (x : ℕ). x + ones_beyond op (shared * 64) (members a) (members b))
+      (count_ext (shared * 64) (λ p. joined op (bit_of a.words.now p) (bit_of b.words.now p)) (λ p. joined op ((members a).has p) ((members b).has p))
+      (λ p l. ap₂ (joined op) (sym (read_bit (record { length = a.length }) a.words.now (valid _ _ a.sound.asked) p (omega (arith, a.sound.own)))) (sym (read_bit (record { length = b.length }) b.words.now (valid _ _ b.sound.asked) p (omega (arith, b.sound.own))))))
+      ∙ two_parts op (members a) (members b) (read_clipped _ _) (read_clipped _ _) (shared * 64) (side (lt-or-le (length a.words.now) (length b.words.now)))
 
-  pub joint-le : joint_ones op (read ws a) (read vs b) ≤ 65536
+  pub joint-le : joint_ones op (members a) (members b) ≤ 65536
   unfolding read
   joint-le =
-      omega (arith, count-le (max a.length b.length) (λ p. joined op ((read ws a).has p) ((read vs b).has p)), (valid a ws sa.asked).small, (valid b vs sb.asked).small)
+      omega (arith, count-le (max a.length b.length) (λ p. joined op ((members a).has p) ((members b).has p)), (valid _ _ a.sound.asked).small, (valid _ _ b.sound.asked).small)

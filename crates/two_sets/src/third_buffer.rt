@@ -1,11 +1,11 @@
-ghost use Rattle.std.specs.Prelude.{◌≡◌, ◌≤◌, max, length};
-ghost use Rattle.sets.specs.CheckedSets.{members};
-ghost use Rattle.sets.specs.Members.{set_of, empty};
-ghost use Rattle.sets.specs.Outcomes.{outcome, edited};
-ghost use Rattle.sets.specs.Questions.{room_question};
+#![tactic(auto, unfolding(sets::specs::Members::read))]
+
+ghost use Rattle.std.specs.Prelude.{◌≡◌, ◌≤◌, max};
+ghost use Rattle.sets.specs.Members.{read, set_of, empty};
+ghost use Rattle.sets.specs.Outcomes.{outcome};
 ghost use Rattle.sets.specs.Refusals.{edited_of};
 ghost use Rattle.two_sets.specs.Combined.{combined};
-ghost use Rattle.two_sets.specs.Rules.{bitand_rule, bitor_rule, bitxor_rule};
+ghost use Rattle.two_sets.specs.Rules.{third_buffer, bitand_rule, bitor_rule, bitxor_rule};
 
 use crate::in_place::join_in_place;
 use blocks::copy_blocks;
@@ -14,15 +14,18 @@ use sets::{Checked, FixedBitSet, Refusal, blocks_of, check_new};
 
 // As many of the first set's words as the result has are copied, then joined in place with the second's.
 fn join_third(
-    one: Checked<'_>,
-    two: Checked<'_>,
+    a: FixedBitSet,
+    words: &[u64],
+    b: FixedBitSet,
+    other: &[u64],
     out: &mut [u64],
     bits: usize,
     operation: Operation,
 ) -> Result<FixedBitSet, Refusal>
-    requires { bits ≤ max one.length two.length }
-    ensures { outcome (edited_of (set_of (empty 0)) result) out.new ≡ edited (room_question bits (length out.old)) (set_of (empty 0)) out.old (combined operation bits (members one.entry) (members two.entry)) }
+    requires { bits ≤ max a.length b.length }
+    ensures { outcome (edited_of (set_of (empty 0)) result) out.new ≡ third_buffer a words.now b other.now bits out.old (combined operation bits (read words.now a) (read other.now b)) }
 {
+    let (one, two) = Checked::both(a, words, b, other)?;
     check_new(bits, out)?;
     let total = blocks_of(bits);
     let copied = one.words.len().min(total);
@@ -41,9 +44,8 @@ pub fn bitand(
 ) -> Result<FixedBitSet, Refusal>
     ensures { outcome (edited_of (set_of (empty 0)) result) out.new ≡ bitand_rule a words.now b other.now out.old }
 {
-    let (one, two) = Checked::both(a, words, b, other)?;
     let length = a.length.min(b.length);
-    join_third(one, two, out, length, Operation::Intersection)
+    join_third(a, words, b, other, out, length, Operation::Intersection)
 }
 
 // `a | b`: the union into a third buffer, of the larger length. Asks 1 to 3 of both sets, then 7 of that length.
@@ -56,9 +58,8 @@ pub fn bitor(
 ) -> Result<FixedBitSet, Refusal>
     ensures { outcome (edited_of (set_of (empty 0)) result) out.new ≡ bitor_rule a words.now b other.now out.old }
 {
-    let (one, two) = Checked::both(a, words, b, other)?;
     let length = a.length.max(b.length);
-    join_third(one, two, out, length, Operation::Union)
+    join_third(a, words, b, other, out, length, Operation::Union)
 }
 
 // `a ^ b`: the symmetric difference into a third buffer, of the larger length. Asks 1 to 3 of both sets, then 7 of that length.
@@ -71,7 +72,14 @@ pub fn bitxor(
 ) -> Result<FixedBitSet, Refusal>
     ensures { outcome (edited_of (set_of (empty 0)) result) out.new ≡ bitxor_rule a words.now b other.now out.old }
 {
-    let (one, two) = Checked::both(a, words, b, other)?;
     let length = a.length.max(b.length);
-    join_third(one, two, out, length, Operation::SymmetricDifference)
+    join_third(
+        a,
+        words,
+        b,
+        other,
+        out,
+        length,
+        Operation::SymmetricDifference,
+    )
 }

@@ -1,7 +1,6 @@
-use mathlib.Core.Path.{ap, ap₂, ◌∙◌}
-use mathlib.Core.Bool.{Bool}
+use mathlib.Core.Path.{ap₂, ◌∙◌}
 use borrow.Author.Tests.{ne_eqb}
-use Rattle.sets.proofs.OutcomeLaws.{given_yes}
+use Rattle.tests.proofs.AnswerLaws.{told_yes}
 use Rattle.sets.proofs.RefusalLaws.{answer_refused}
 use Rattle.comparisons.specs.Orders.{equal}
 use Rattle.comparisons.proofs.EqualLaws.{equal_no, equal_is}
@@ -13,18 +12,12 @@ returns-in_err-a c = answer_refused _ _ _ _ _ c.from_residual.ensures.1 c.in_err
 pub returns-then-a-b : goal.returns-then-a-b
 returns-then-a-b c =
     let both = c.in_ok-a.ensures.same in
-    let a = c.in_ok-a.a in
-    let b = c.in_ok-a.b in
-    given_yes _ c.in_ok-a.ensures.number
-    (ap (λ (x : Bool). record { number = 0; yes = x })
-    (equal_is (record { length = a.length }) a.words.now (record { length = b.length }) b.words.now a.sound b.sound c.if-a-b.true _ c.same.ensures
-    ∙ ap₂ equal both.0 both.1))
+    told_yes c.in_ok-a.ensures.number
+    (equal_is c.in_ok-a.a c.in_ok-a.b c.if-a-b.true _ c.same.ensures
+    ∙ ap₂ equal both.0 both.1)
 
 pub returns-else-a-b : goal.returns-else-a-b
 returns-else-a-b c =
     let both = c.in_ok-a.ensures.same in
-    let a = c.in_ok-a.a in
-    let b = c.in_ok-a.b in
-    given_yes _ c.in_ok-a.ensures.number
-    (ap (λ (x : Bool). record { number = 0; yes = x })
-    (ne_eqb _ _ c.if-a-b.false ∙ equal_no (record { length = a.length }) a.words.now (record { length = b.length }) b.words.now c.if-a-b.false ∙ ap₂ equal both.0 both.1))
+    told_yes c.in_ok-a.ensures.number
+    (ne_eqb _ _ c.if-a-b.false ∙ equal_no c.in_ok-a.a c.in_ok-a.b c.if-a-b.false ∙ ap₂ equal both.0 both.1)

@@ -1,6 +1,5 @@
-use mathlib.Core.Path.{ap, ap₂, ◌∙◌}
-use mathlib.Core.Bool.{Bool}
-use Rattle.sets.proofs.OutcomeLaws.{given_yes}
+use mathlib.Core.Path.{ap₂, ◌∙◌}
+use Rattle.tests.proofs.AnswerLaws.{told_yes}
 use Rattle.sets.proofs.RefusalLaws.{answer_refused}
 use Rattle.comparisons.specs.Relations.{disjoint}
 use Rattle.comparisons.proofs.relations.is_disjoint.Goals as goal
@@ -11,4 +10,4 @@ returns-in_err-a c = answer_refused _ _ _ _ _ c.from_residual.ensures.1 c.in_err
 pub returns : goal.returns
 returns c =
     let same = c.in_ok-a.ensures.same in
-    given_yes _ c.in_ok-a.ensures.number (ap (λ (x : Bool). record { number = 0; yes = x }) (c.disjoint_by_words.ensures ∙ ap₂ disjoint same.0 same.1))
+    told_yes c.in_ok-a.ensures.number (c.disjoint_by_words.ensures ∙ ap₂ disjoint same.0 same.1)

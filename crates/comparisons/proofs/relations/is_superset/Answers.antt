@@ -1,6 +1,5 @@
-use mathlib.Core.Path.{ap, ap₂, ◌∙◌}
-use mathlib.Core.Bool.{Bool}
-use Rattle.sets.proofs.OutcomeLaws.{given_yes}
+use mathlib.Core.Path.{ap₂, ◌∙◌}
+use Rattle.tests.proofs.AnswerLaws.{told_yes}
 use Rattle.sets.proofs.RefusalLaws.{answer_refused}
 use Rattle.comparisons.specs.Relations.{subset}
 use Rattle.comparisons.proofs.RelationLaws.{subset_is}
@@ -12,7 +11,4 @@ returns-in_err-a c = answer_refused _ _ _ _ _ c.from_residual.ensures.1 c.in_err
 pub returns : goal.returns
 returns c =
     let same = c.in_ok-a.ensures.same in
-    let a = c.in_ok-a.a in
-    let b = c.in_ok-a.b in
-    given_yes _ c.in_ok-a.ensures.number
-    (ap (λ (x : Bool). record { number = 0; yes = x }) (c.subset_by_words.ensures ∙ subset_is (record { length = b.length }) b.words.now (record { length = a.length }) a.words.now b.sound a.sound ∙ ap₂ subset same.1 same.0))
+    told_yes c.in_ok-a.ensures.number (c.subset_by_words.ensures ∙ subset_is c.in_ok-a.b c.in_ok-a.a ∙ ap₂ subset same.1 same.0)

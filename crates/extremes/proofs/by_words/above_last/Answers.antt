@@ -1,17 +1,9 @@
 use mathlib.Core.Path.{◌≡◌, sym, ◌∙◌}
 use Prim.Native.Nat.{ℕ, ◌-◌, ◌+◌}
 use lib.ListN.{get_or}
-use Rattle.tests.proofs.ScanLaws.{descend_all, descend_at, less}
+use Rattle.tests.proofs.ScanLaws.{descend_all, descend_at}
 use native.Mathlib.Omega.{arith}
 use Rattle.extremes.proofs.by_words.above_last.Goals as goal
-
-pub loop-k-init : goal.loop-k-init
-loop-k-init c = (omega arith, λ i a b. absurd (omega arith))
-
-pub loop-k-preserved : goal.loop-k-preserved
-loop-k-preserved c =
-    let inv = c.loop-k.invariant in
-    (omega arith, less (λ (i : ℕ). get_or c.args.words.now i 0) _ _ _ inv.1 c.if-k-eq0.false c.if-words-k-ne0.false)
 
 pub returns-then-k-eq0 : goal.returns-then-k-eq0
 returns-then-k-eq0 c =

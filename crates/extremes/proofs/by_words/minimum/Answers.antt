@@ -4,11 +4,10 @@ use lib.ListN.{get_or}
 use Rattle.word_bits.specs.Digits.{digit}
 use Rattle.word_bits.proofs.Ends.{below_le}
 use Rattle.sets.specs.Members.{words_of}
-use Rattle.sets.proofs.OutcomeLaws.{given_yes}
+use Rattle.tests.proofs.AnswerLaws.{found_yes}
 use Rattle.sets.proofs.RefusalLaws.{answer_refused}
 use Rattle.sets.proofs.QuestionLaws.{Valid, valid}
 use Rattle.sets.proofs.WordLaws.{words_hold}
-use Rattle.std.specs.Prelude.{Option}
 use Rattle.std.specs.Prelude.{Some}
 use Rattle.extremes.proofs.ExtremeLaws.{least-none, least_at}
 use Rattle.tests.proofs.ScanLaws.{scan_whole, scan_before, scan_stop}
@@ -20,14 +19,11 @@ use Rattle.extremes.proofs.by_words.minimum.Goals.{Else-blocks-k, In_ok-check}
 held : (c : In_ok-check) → Valid c.args.set c.args.words.now
 held c = valid _ _ (sym c.in_ok-check.ensures)
 
-held_2 : (c : Else-blocks-k) → Valid c.args.set c.args.words.now
-held_2 c = valid _ _ (sym c.in_ok-check.ensures)
-
 -- the word found is one of the set's
 inside : (c : Else-blocks-k) → (c.first_other-k.result < words_of c.args.set.length) × (c.first_other-k.result < 1024)
 inside c =
     let h = rw c.blocks_of-blocks.ensures at c.if-blocks-k.false in
-    (h, omega (arith, h, words_hold c.args.set.length, (held_2 c).small))
+    (h, omega (arith, h, words_hold c.args.set.length, (valid _ _ (sym c.in_ok-check.ensures)).small))
 
 pub returns-in_err-check : goal.returns-in_err-check
 returns-in_err-check c = answer_refused _ _ _ _ _ c.from_residual.ensures.1 c.in_err-check.ensures
@@ -38,10 +34,9 @@ returns-then-blocks-k c =
     let w : ℕ → ℕ = λ i. get_or a.words.now i 0 in
     let e = scan_whole w 0 (words_of a.set.length) 0 (held (goal.at.returns-then-blocks-k c).In_ok-check).enough (rw c.blocks_of-blocks.ensures at c.first_other-k.ensures) in
     let h = rw c.blocks_of-blocks.ensures at c.if-blocks-k.true in
-    given_yes _ (c.in_ok-check.ensures)
-    (ap (λ (p : Option ℕ). record { number = 0; at = p })
+    found_yes c.in_ok-check.ensures
     (sym (least-none a.set a.words.now (held (goal.at.returns-then-blocks-k c).In_ok-check)
-    (λ k l. scan_before w 0 (words_of a.set.length) 0 c.first_other-k.result e k (omega arith) (omega arith)))))
+    (λ k l. scan_before w 0 (words_of a.set.length) 0 c.first_other-k.result e k (omega arith) (omega arith))))
 
 pub overflow_mul-result : goal.overflow_mul-result
 overflow_mul-result c = omega (arith, inside (goal.at.overflow_mul-result c).Else-blocks-k)
@@ -63,8 +58,7 @@ returns c =
     let k = c.first_other-k.result in
     let e = scan_whole w 0 n 0 (held (goal.at.returns c).In_ok-check).enough (rw c.blocks_of-blocks.ensures at c.first_other-k.ensures) in
     let h = rw c.blocks_of-blocks.ensures at c.if-blocks-k.false in
-    given_yes _ (c.in_ok-check.ensures)
-    (ap (λ (p : Option ℕ). record { number = 0; at = p })
+    found_yes c.in_ok-check.ensures
     (ap (λ (t : ℕ). Some (k * 64 + t)) c.trailing_zeros.ensures
     ∙ sym (least_at a.set a.words.now (held (goal.at.returns c).In_ok-check) k h (c.type_inv.words k).fits (scan_stop w 0 n 0 k e h)
-    (λ i l. scan_before w 0 n 0 k e i (omega arith) l))))
+    (λ i l. scan_before w 0 n 0 k e i (omega arith) l)))

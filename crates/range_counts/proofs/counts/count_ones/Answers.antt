@@ -1,7 +1,6 @@
-use mathlib.Core.Path.{sym, ap, ◌∙◌}
-use Rattle.sets.proofs.OutcomeLaws.{given_yes}
+use mathlib.Core.Path.{sym, ◌∙◌}
+use Rattle.tests.proofs.AnswerLaws.{counted_yes}
 use Rattle.sets.proofs.RefusalLaws.{answer_refused}
-use Prim.Native.Nat.{ℕ}
 use Rattle.sets.proofs.RangeQuestionLaws.{held_range}
 use Rattle.range_counts.proofs.CountLaws.{ones_is}
 use Rattle.range_counts.proofs.counts.count_ones.Goals as goal
@@ -19,6 +18,4 @@ returns c =
     let a = c.args in
     let accepted = c.in_ok-check_range.ensures in
     let q = held_range a.set a.words.now a.start a.end (sym accepted) in
-    given_yes _ accepted
-    (ap (λ (n : ℕ). record { number = 0; count = n })
-    (c.ones_of.ensures ∙ ones_is a.set a.words.now a.start a.end q.range))
+    counted_yes accepted (c.ones_of.ensures ∙ ones_is a.set a.words.now a.start a.end q.range)

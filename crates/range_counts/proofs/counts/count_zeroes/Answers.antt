@@ -1,7 +1,7 @@
-use mathlib.Core.Path.{◌≡◌, sym, ap}
-use Rattle.sets.proofs.OutcomeLaws.{given_yes}
+use mathlib.Core.Path.{◌≡◌, sym}
+use Rattle.tests.proofs.AnswerLaws.{counted_yes}
 use Rattle.sets.proofs.RefusalLaws.{answer_refused}
-use Prim.Native.Nat.{ℕ, ◌-◌}
+use Prim.Native.Nat.{◌-◌}
 use Rattle.sets.specs.Members.{read}
 use Rattle.tests.specs.Tests.{zeroes_in}
 use Rattle.sets.proofs.RangeQuestionLaws.{held_range}
@@ -33,4 +33,4 @@ returns c =
     let q = held_range a.set a.words.now a.start a.end (sym accepted) in
     let e : a.end - a.start - c.ones_of.result ≡ zeroes_in a.start a.end (read a.words.now a.set) =
     omega (arith, c.ones_of.ensures, ones_and_zeroes a.set a.words.now a.start a.end q.range) in
-    given_yes _ accepted (ap (λ (n : ℕ). record { number = 0; count = n }) e)
+    counted_yes accepted e

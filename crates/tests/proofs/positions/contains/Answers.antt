@@ -1,6 +1,4 @@
-use mathlib.Core.Path.{ap}
-use mathlib.Core.Bool.{Bool}
-use Rattle.sets.proofs.OutcomeLaws.{given_yes}
+use Rattle.tests.proofs.AnswerLaws.{told_yes}
 use Rattle.sets.proofs.RefusalLaws.{answer_refused}
 use Rattle.tests.proofs.positions.contains.Goals as goal
 
@@ -8,4 +6,4 @@ pub returns-in_err-check : goal.returns-in_err-check
 returns-in_err-check c = answer_refused _ _ _ _ _ c.from_residual.ensures.1 c.in_err-check.ensures
 
 pub returns : goal.returns
-returns c = given_yes _ c.in_ok-check.ensures (ap (λ (b : Bool). record { number = 0; yes = b }) c.member.ensures)
+returns c = told_yes c.in_ok-check.ensures c.member.ensures

@@ -1,7 +1,7 @@
 use mathlib.Core.Path.{sym, ap, ◌∙◌}
-use Rattle.sets.proofs.OutcomeLaws.{given_yes}
+use Rattle.tests.proofs.AnswerLaws.{told_yes}
 use Rattle.sets.proofs.RefusalLaws.{answer_refused}
-use mathlib.Core.Bool.{Bool, not}
+use mathlib.Core.Bool.{not}
 use Rattle.sets.proofs.RangeQuestionLaws.{held_range}
 use Rattle.tests.proofs.RangeTestLaws.{all_is}
 use Rattle.tests.proofs.ranges.contains_all_in_range.Goals as goal
@@ -17,6 +17,4 @@ returns c =
     let a = c.args in
     let accepted = c.in_ok-check_range.ensures in
     let q = held_range a.set a.words.now a.start a.end (sym accepted) in
-    given_yes _ accepted
-    (ap (λ (b : Bool). record { number = 0; yes = b })
-    (ap not c.some_other.ensures ∙ all_is a.set a.words.now a.start a.end q.range.inside))
+    told_yes accepted (ap not c.some_other.ensures ∙ all_is a.set a.words.now a.start a.end q.range.inside)

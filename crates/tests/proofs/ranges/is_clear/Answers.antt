@@ -1,7 +1,7 @@
 use mathlib.Core.Path.{sym, ap, ◌∙◌}
-use Rattle.sets.proofs.OutcomeLaws.{given_yes}
+use Rattle.tests.proofs.AnswerLaws.{told_yes}
 use Rattle.sets.proofs.RefusalLaws.{answer_refused}
-use mathlib.Core.Bool.{Bool, not}
+use mathlib.Core.Bool.{not}
 use Rattle.sets.proofs.QuestionLaws.{valid}
 use Rattle.sets.proofs.RangeQuestionLaws.{words_room}
 use Rattle.tests.proofs.RangeTestLaws.{clear_is}
@@ -16,5 +16,4 @@ some_other-requires c = words_room _ _ (valid _ _ (sym c.in_ok-check.ensures))
 pub returns : goal.returns
 returns c =
     let a = c.args in
-    given_yes _ (c.in_ok-check.ensures)
-    (ap (λ (b : Bool). record { number = 0; yes = not b }) (c.some_other.ensures ∙ clear_is a.set a.words.now))
+    told_yes c.in_ok-check.ensures (ap not (c.some_other.ensures ∙ clear_is a.set a.words.now))

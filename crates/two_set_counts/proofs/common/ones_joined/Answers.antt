@@ -12,7 +12,7 @@ pub loop-k-init : goal.loop-k-init
 loop-k-init g c = (omega arith, λ op makes. row-none _)
 
 pub overflow_add-sum : goal.overflow_add-sum
-overflow_add-sum g c = omega (arith, few c.args.a.sound, c.loop-k.invariant.0, c.count_ones-sum.ensures, count-le 64 (digit c.word.result))
+overflow_add-sum g c = omega (arith, few c.args.a, c.loop-k.invariant.0, c.count_ones-sum.ensures, count-le 64 (digit c.word.result))
 
 pub loop-k-preserved : goal.loop-k-preserved
 loop-k-preserved g c =

@@ -13,13 +13,13 @@ whole c =
     let a = c.args.a in
     let b = c.args.b in
     ap₂ ◌+◌ c.ones_common.ensures c.ones_beyond.ensures
-    ∙ two_counts c.args.operation (record { length = a.length }) a.words.now (record { length = b.length }) b.words.now a.sound b.sound
+    ∙ two_counts c.args.operation a b
 
 pub overflow_add-result : goal.overflow_add-result
 overflow_add-result c =
     let a = c.args.a in
     let b = c.args.b in
-    omega (arith, whole (goal.at.overflow_add-result c).After-ones_beyond, joint-le c.args.operation (record { length = a.length }) a.words.now (record { length = b.length }) b.words.now a.sound b.sound)
+    omega (arith, whole (goal.at.overflow_add-result c).After-ones_beyond, joint-le c.args.operation a b)
 
 pub returns : goal.returns
 returns c = whole (goal.at.returns c).After-ones_beyond

@@ -1,6 +1,5 @@
-use mathlib.Core.Path.{ap, ap₂, ◌∙◌}
-use Prim.Native.Nat.{ℕ}
-use Rattle.sets.proofs.OutcomeLaws.{given_yes}
+use mathlib.Core.Path.{ap₂, ◌∙◌}
+use Rattle.tests.proofs.AnswerLaws.{counted_yes}
 use Rattle.sets.proofs.ReadLaws.{read_clipped}
 use Rattle.sets.proofs.RefusalLaws.{answer_refused}
 use Rattle.operations.specs.declared.operation.Operation.TheVariants.{SymmetricDifference}
@@ -14,6 +13,4 @@ returns-in_err-a c = answer_refused _ _ _ _ _ c.from_residual.ensures.1 c.in_err
 pub returns : goal.returns
 returns c =
     let same = c.in_ok-a.ensures.same in
-    given_yes _ c.in_ok-a.ensures.number
-    (ap (λ (n : ℕ). record { number = 0; count = n })
-    (c.joint_count.ensures ∙ ap₂ (joint_ones SymmetricDifference) same.0 same.1 ∙ symmetric_difference_size _ _ (read_clipped _ _) (read_clipped _ _)))
+    counted_yes c.in_ok-a.ensures.number (c.joint_count.ensures ∙ ap₂ (joint_ones SymmetricDifference) same.0 same.1 ∙ symmetric_difference_size _ _ (read_clipped _ _) (read_clipped _ _))

@@ -8,13 +8,13 @@ pub overflow_add-result : goal.overflow_add-result
 overflow_add-result c =
     let a = c.args.a in
     let b = c.args.b in
-    omega (arith, c.ones_from.ensures, c.ones_from-in-Union.ensures, rest_le (record { length = a.length }) a.words.now a.sound (c.min-shared.result * 64), rest_le (record { length = b.length }) b.words.now b.sound (c.min-shared.result * 64))
+    omega (arith, c.ones_from.ensures, c.ones_from-in-Union.ensures, rest_le a (c.min-shared.result * 64), rest_le b (c.min-shared.result * 64))
 
 pub overflow_add-result-in-SymmetricDifference : goal.overflow_add-result-in-SymmetricDifference
 overflow_add-result-in-SymmetricDifference c =
     let a = c.args.a in
     let b = c.args.b in
-    omega (arith, c.ones_from-in-SymmetricDifference.ensures, c.ones_from-in-SymmetricDifference-2.ensures, rest_le (record { length = a.length }) a.words.now a.sound (c.min-shared.result * 64), rest_le (record { length = b.length }) b.words.now b.sound (c.min-shared.result * 64))
+    omega (arith, c.ones_from-in-SymmetricDifference.ensures, c.ones_from-in-SymmetricDifference-2.ensures, rest_le a (c.min-shared.result * 64), rest_le b (c.min-shared.result * 64))
 
 pub returns-in-SymmetricDifference : goal.returns-in-SymmetricDifference
 unfolding xor

@@ -11,5 +11,5 @@ pub returns : goal.returns
 returns c =
     let s = c.args.set in
     let first = c.args.first in
-    let left : length (take (length s.words.now - first) (drop first s.words.now)) ≤ 1024 = rw (length-take, length-drop) (omega (arith, few s.sound)) in
-    all_words _ left c.ones_of_words.ensures ∙ rest_ones (record { length = s.length }) s.words.now s.sound first c.requires
+    let left : length (take (length s.words.now - first) (drop first s.words.now)) ≤ 1024 = rw (length-take, length-drop) (omega (arith, few s)) in
+    all_words _ left c.ones_of_words.ensures ∙ rest_ones s first c.requires
