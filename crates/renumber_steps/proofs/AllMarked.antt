@@ -21,7 +21,7 @@ use Rattle.sets.proofs.QuestionLaws.{first-yes, position_yes}
 use Rattle.sets.proofs.WriteLaws.{bit_write}
 use Rattle.edits.specs.Edits.{is_in}
 use Rattle.renumber_steps.specs.Pairs.{olds, repeats, sided}
-use Rattle.renumber_steps.specs.Passes.{Taken, marked, marking, aboves, no_marks}
+use Rattle.renumber_steps.specs.Passes.{Taken, marked, marking_all, aboves, no_marks}
 use Rattle.renumber_steps.specs.declared.pair.Pair.{Pair}
 use Rattle.renumber_steps.proofs.CountLaws.{count_list}
 use Rattle.renumber_steps.proofs.RepeatLaws.{held, held_len, held_has, hits, marks, marks_len, marks_has}
@@ -86,13 +86,13 @@ no_repeats (x ∷ xs) e = absurd (no e)
 
 -- ---- the exit
 
-marking_length : (ms xs : List ℕ) → length (marking ms xs).words ≡ length ms
-unfolding marking marked
+marking_length : (ms xs : List ℕ) → length (marking_all ms xs).words ≡ length ms
+unfolding marking_all marked
 marking_length ms [] = refl
 marking_length ms (x ∷ xs) = go (bit_of ms x) (marking_length (marked ms x) xs)
   where
-    go : (b : Bool) → length (marking (marked ms x) xs).words ≡ length (marked ms x)
-        → length (cond b (record { found = true; words = marked ms x }) (marking (marked ms x) xs)).words ≡ length ms
+    go : (b : Bool) → length (marking_all (marked ms x) xs).words ≡ length (marked ms x)
+        → length (cond b (record { found = true; words = marked ms x }) (marking_all (marked ms x) xs)).words ≡ length ms
     go true e = length-set ms (x / 64) _
     go false e = e ∙ length-set ms (x / 64) _
 
@@ -101,25 +101,25 @@ unfolding olds sided
 sided_length back [] = refl
 sided_length back (p ∷ ps) = ap suc (sided_length back ps)
 
-module _ (xs : List ℕ) (none : (marking no_marks xs).found ≡ false) where
+module _ (xs : List ℕ) (none : (marking_all no_marks xs).found ≡ false) where
   -- as many words as before
-  pub kept_size : length (marking no_marks xs).words ≡ 1024
+  pub kept_size : length (marking_all no_marks xs).words ≡ 1024
   kept_size = marking_length no_marks xs ∙ no_marks_long
 
   none_hit : hits (empty 65536) xs ≡ false
   none_hit = sym (ap (λ (t : Taken). t.found) (run xs)) ∙ none
 
-  bits : (p : ℕ) → p < 65536 → bit_of (marking no_marks xs).words p ≡ is_in (belows xs) p
+  bits : (p : ℕ) → p < 65536 → bit_of (marking_all no_marks xs).words p ≡ is_in (belows xs) p
   unfolding words_of
   bits p l =
       ap (λ (t : Taken). bit_of t.words p) (run xs)
       ∙ bit_write no_marks (marks (empty 65536) xs) p (rw (marks_len (empty 65536) xs) (omega arith))
       ∙ marks_has (empty 65536) xs p l none_hit ∙ or-false (is_in xs p) ∙ sym (belows_in xs p l)
 
-  all_below : count 65536 (bit_of (marking no_marks xs).words) ≡ length xs → length (belows xs) ≡ length xs
+  all_below : count 65536 (bit_of (marking_all no_marks xs).words) ≡ length xs → length (belows xs) ≡ length xs
   all_below full =
       sym (count_list (set_of (empty 65536)) (belows xs) (belows_once (empty 65536) xs refl none_hit) (belows_fit xs))
-      ∙ sym (count_ext 65536 (bit_of (marking no_marks xs).words) (is_in (belows xs)) bits) ∙ full
+      ∙ sym (count_ext 65536 (bit_of (marking_all no_marks xs).words) (is_in (belows xs)) bits) ∙ full
 
-  pub none_above : count 65536 (bit_of (marking no_marks xs).words) ≡ length xs → repeats (aboves xs) ≡ false
+  pub none_above : count 65536 (bit_of (marking_all no_marks xs).words) ≡ length xs → repeats (aboves xs) ≡ false
   none_above full = let both = parted xs in let all = all_below full in no_repeats (aboves xs) (omega arith)

@@ -13,7 +13,7 @@ use Rattle.std.proofs.Common.{length-drop}
 use Rattle.sets.specs.Members.{Members, bit_of}
 use Rattle.edits.specs.Edits.{is_in}
 use Rattle.renumber_steps.specs.Pairs.{sided_pair, sided, olds, repeats}
-use Rattle.renumber_steps.specs.Passes.{Taken, aboves, marked, marking, moved}
+use Rattle.renumber_steps.specs.Passes.{Taken, aboves, marked, marking_all, moved}
 use Rattle.renumber_steps.specs.declared.pair.Pair.{Pair}
 use Rattle.renumber_steps.proofs.RepeatLaws.{in_aboves}
 
@@ -51,18 +51,18 @@ module _ (back : Bool) (ps : List Pair) (k : ℕ) where
 
   -- marks
   abbrev pub marks_from : List ℕ → Taken
-  marks_from ws = marking ws (olds (sided back (drop k ps)))
+  marks_from ws = marking_all ws (olds (sided back (drop k ps)))
 
   pub marks_here : (ws : List ℕ) {zs : List ℕ} {p : Pair} {b : Bool} → k < length ps → p ≡ sided_pair back (get_or ps k none) → b ≡ bit_of ws p.old
-      → zs ≡ marked ws p.old → marks_from ws ≡ cond b (record { found = true; words = zs }) (marking zs (olds behind))
-  unfolding marking olds
+      → zs ≡ marked ws p.old → marks_from ws ≡ cond b (record { found = true; words = zs }) (marking_all zs (olds behind))
+  unfolding marking_all olds
   marks_here ws {zs} {p} l q e z =
-      ap (λ (qs : List Pair). marking ws (olds qs)) (here l) ∙ ap (λ (p : Pair). marking ws (p.old ∷ olds behind)) (sym q)
-      ∙ ap₂ (λ (b : Bool) (l : List ℕ). cond b (record { found = true; words = l }) (marking l (olds behind))) (sym e) (sym z)
+      ap (λ (qs : List Pair). marking_all ws (olds qs)) (here l) ∙ ap (λ (p : Pair). marking_all ws (p.old ∷ olds behind)) (sym q)
+      ∙ ap₂ (λ (b : Bool) (l : List ℕ). cond b (record { found = true; words = l }) (marking_all l (olds behind))) (sym e) (sym z)
 
   pub marks_over : (ws : List ℕ) → length ps ≤ k → marks_from ws ≡ record { found = false; words = ws }
-  unfolding marking olds
-  marks_over ws l = ap (λ (qs : List Pair). marking ws (olds qs)) (over l)
+  unfolding marking_all olds
+  marks_over ws l = ap (λ (qs : List Pair). marking_all ws (olds qs)) (over l)
 
   -- moves
   module _ (s : Members) where

@@ -18,7 +18,7 @@ use Rattle.sets.proofs.ListQuestionLaws.{positions-both}
 use Rattle.sets.proofs.WriteLaws.{Clipped, length-write, bit_write}
 use Rattle.edits.specs.Edits.{inserted}
 use Rattle.renumber_steps.specs.Pairs.{news, arrives, renumbered}
-use Rattle.renumber_steps.specs.Passes.{marked, marking, moved}
+use Rattle.renumber_steps.specs.Passes.{marked, marking_all, moved}
 use Rattle.renumber_steps.specs.declared.pair.Pair.{Pair}
 use Rattle.renumber_steps.proofs.MarkLaws.{mark_write}
 use Rattle.renumber_steps.proofs.RepeatLaws.{held, held_in, held_out, held_len, held_clipped, hits, marks}
@@ -46,16 +46,16 @@ mark_held vs t x c n size = go (lt-or-le x 65536)
 
 -- a pass that marks
 pub marked_run : (vs : List ℕ) (xs : List ℕ) (t : Members) → Clipped t → t.len ≡ 65536 → length vs ≡ 1024
-    → marking (write vs t) xs ≡ record { found = hits t xs; words = write vs (marks t xs) }
-unfolding marking hits marks
+    → marking_all (write vs t) xs ≡ record { found = hits t xs; words = write vs (marks t xs) }
+unfolding marking_all hits marks
 marked_run vs [] t c n size = refl
 marked_run vs (x ∷ xs) t c n size =
     let one = mark_held vs t x c n size in
-    ap₂ (λ (b : Bool) (l : List ℕ). cond b (record { found = true; words = l }) (marking l xs)) one.0 one.1
+    ap₂ (λ (b : Bool) (l : List ℕ). cond b (record { found = true; words = l }) (marking_all l xs)) one.0 one.1
     ∙ go (t.has x) (marked_run vs xs (held x t) (held_clipped x t c) (held_len x t ∙ n) size)
   where
-    go : (b : Bool) → marking (write vs (held x t)) xs ≡ record { found = hits (held x t) xs; words = write vs (marks (held x t) xs) }
-        → cond b (record { found = true; words = write vs (held x t) }) (marking (write vs (held x t)) xs)
+    go : (b : Bool) → marking_all (write vs (held x t)) xs ≡ record { found = hits (held x t) xs; words = write vs (marks (held x t) xs) }
+        → cond b (record { found = true; words = write vs (held x t) }) (marking_all (write vs (held x t)) xs)
         ≡ record { found = b || hits (held x t) xs; words = write vs (cond b (held x t) (marks (held x t) xs)) }
     go true e = refl
     go false e = e

@@ -10,7 +10,7 @@ use Rattle.sets.specs.Members.{words_of, write, empty}
 use Rattle.sets.proofs.WriteLaws.{Clipped, write_is}
 use Rattle.sets.proofs.ZeroLaws.{no_members}
 use Rattle.renumber_steps.specs.Pairs.{repeats}
-use Rattle.renumber_steps.specs.Passes.{Taken, aboves, marking, no_marks, shared}
+use Rattle.renumber_steps.specs.Passes.{Taken, aboves, marking_all, no_marks, shared}
 use Rattle.renumber_steps.proofs.RepeatLaws.{hits, marks, hits_repeats}
 use Rattle.renumber_steps.proofs.RunLaws.{marked_run}
 
@@ -28,8 +28,8 @@ pub none_clipped : (n : ℕ) → Clipped (empty n)
 none_clipped n = record { above = λ p h. refl }
 
 module _ (xs : List ℕ) where
-  pub run : marking no_marks xs ≡ record { found = hits (empty 65536) xs; words = write no_marks (marks (empty 65536) xs) }
-  run = ap (λ (l : List ℕ). marking l xs) unmarked ∙ marked_run no_marks xs (empty 65536) (none_clipped 65536) refl no_marks_long
+  pub run : marking_all no_marks xs ≡ record { found = hits (empty 65536) xs; words = write no_marks (marks (empty 65536) xs) }
+  run = ap (λ (l : List ℕ). marking_all l xs) unmarked ∙ marked_run no_marks xs (empty 65536) (none_clipped 65536) refl no_marks_long
 
   pub shared-found : (shared xs).found ≡ repeats xs
   unfolding shared

@@ -10,7 +10,7 @@ use Rattle.renumber_steps.specs.declared.pair.Pair.{Pair}
 unfoldable pub aboves : List ℕ → List ℕ
 aboves ps = filter (leb 65536) ps
 
--- whether an offset was found, and the words after that
+-- whether an offset was marked already, and the words after it
 pub record Taken : Type 0 where
   pub found : Bool
   pub words : List ℕ
@@ -20,9 +20,9 @@ unfoldable pub marked : List ℕ → ℕ → List ℕ
 marked ws p = set_at ws (p / 64) (bit_or (get_or ws (p / 64) 0) (2 ^ (p % 64)))
 
 -- the offsets of a list, marked one after the other, up to the first that is marked already
-unfoldable pub marking : List ℕ → List ℕ → Taken
-marking ws [] = record { found = false; words = ws }
-marking ws (p ∷ ps) = cond (bit_of ws p) (record { found = true; words = marked ws p }) (marking (marked ws p) ps)
+unfoldable pub marking_all : List ℕ → List ℕ → Taken
+marking_all ws [] = record { found = false; words = ws }
+marking_all ws (p ∷ ps) = cond (bit_of ws p) (record { found = true; words = marked ws p }) (marking_all (marked ws p) ps)
 
 -- the new offset of each member marked
 unfoldable pub moved : Members → List ℕ → List Pair → List ℕ
@@ -35,7 +35,7 @@ no_marks = replicate 1024 0
 
 -- whether an offset stands twice in a list: below 65,536 by the marks, from there up by comparing
 unfoldable pub shared : List ℕ → Taken
-shared ps = record { found = (marking no_marks ps).found || repeats (aboves ps); words = (marking no_marks ps).words }
+shared ps = record { found = (marking_all no_marks ps).found || repeats (aboves ps); words = (marking_all no_marks ps).words }
 
 -- the first no of 10, 11, 4 and 12
 unfoldable pub pairs_number : Bool → Bool → Bool → Bool → ℕ

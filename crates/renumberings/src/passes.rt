@@ -2,7 +2,7 @@ ghost use Rattle.std.specs.Prelude.{◌≡◌};
 ghost use Rattle.sets.specs.CheckedSets.{members};
 ghost use Rattle.sets.specs.Members.{bit_of};
 ghost use Rattle.renumber_steps.specs.Pairs.{sided, olds};
-ghost use Rattle.renumber_steps.specs.Passes.{Taken, marked, marking, moved};
+ghost use Rattle.renumber_steps.specs.Passes.{Taken, marked, marking_all, moved};
 
 use renumber_steps::{Pair, Side};
 use sets::Checked;
@@ -26,7 +26,7 @@ fn mark(words: &mut [u64], offset: u64) -> bool
 // Marks each old offset, up to the first that is marked already; tells whether there is one.
 #[tactic(auto, using(renumber_steps::proofs::PassLaws::mark_steps))]
 pub(crate) fn mark_olds<S: Side>(pairs: &[Pair], marks: &mut [u64]) -> bool
-    ensures { record { found = result; words = marks.new } ≡ marking marks.old (olds (sided S.back pairs.now)) }
+    ensures { record { found = result; words = marks.new } ≡ marking_all marks.old (olds (sided S.back pairs.now)) }
 {
     for pair in pairs {
         if mark(marks, S::sided(*pair).old) {
