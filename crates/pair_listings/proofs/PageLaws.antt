@@ -1,7 +1,7 @@
 -- What is left to write on the first page is all that is written, and the pieces of a run are that. Assumes nothing.
 use mathlib.Core.Path.{◌≡◌, refl, sym, ap, ◌∙◌}
-use mathlib.Core.Bool.{Bool, true, false}
-use mathlib.Core.List.{List, ◌++◌, flatten}
+use mathlib.Core.Bool.{Bool, true, false, false≢true}
+use mathlib.Core.List.{List, [], ◌++◌, flatten}
 use mathlib.Core.Logic.{◌⊎◌, inl, inr}
 use Prim.Native.Nat.{ℕ, ◌+◌, ◌<◌}
 use native.Mathlib.Omega.{arith}
@@ -15,7 +15,9 @@ use Rattle.listing_lines.specs.Pieces.{Piece}
 use Rattle.pair_listings.specs.declared.jobs.Job.{Job}
 use Rattle.listing_lines.specs.declared.pages.Page.{Page}
 use Rattle.sets.specs.declared.answers.Part.{Part}
+use Rattle.pair_listings.specs.Stages.{is_over}
 use Rattle.pair_listings.specs.declared.jobs.Stage.{Stage}
+use Rattle.pair_listings.specs.declared.jobs.Stage.TheVariants.{Lines, Last, Over}
 use Rattle.pair_listings.proofs.WalkLaws.{all_left, few, first-asked}
 
 module _ (job : Job) (table : ℕ → ℕ) (ws : List ℕ) where
@@ -34,6 +36,17 @@ module _ (job : Job) (table : ℕ → ℕ) (ws : List ℕ) where
   pub first_ready : Ready s (first_page job)
   unfolding first_page
   first_ready = record { asked = first-asked; places = omega (arith, ap length (all_left ws), few ws) }
+
+  -- ---- the last page
+
+  pub nothing_left : (page : Page Stage Part) → is_over page.stage ≡ true → rest_text job table s page ≡ []
+  unfolding stage_text
+  nothing_left page o = go page.stage o
+    where
+      go : (stage : Stage) → is_over stage ≡ true → stage_text stage job table s page.records page.place ≡ []
+      go Over o = refl
+      go Lines o = absurd (false≢true o)
+      go Last o = absurd (false≢true o)
 
   -- ---- a run
 

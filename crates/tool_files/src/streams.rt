@@ -1,5 +1,7 @@
-ghost use Rattle.std.specs.Prelude.{OnOk};
+ghost use Rattle.std.specs.Prelude.{OnOk, List, ℕ};
 ghost use Rattle.std.specs.Io.KnownBytes.{Appends};
+ghost use Rattle.listing_lines.specs.declared.pages.Page.{Page as PageOf};
+ghost use Rattle.tool_files.specs.Pieces.{Leaves};
 
 use crate::messages::{Trouble, incomplete, not_listed};
 use crate::parts::part;
@@ -28,6 +30,7 @@ pub fn write_pieces<S: Progress + Copy, R: Copy, N, W: Write, E: Write>(
 where
     N: Fn(Page<S, R>, &mut [u8]) -> Option<Written<S, R>>,
     requires { N.IsAlwaysCallable next_piece }
+    ensures { (rest : PageOf S R → List ℕ) → Leaves N.Fn next_piece S.over rest → OnOk result (Appends (W.contents out.old) (W.contents out.new) (rest first)) }
 {
     let mut buffer = [0u8; 65536];
     let mut page = first;

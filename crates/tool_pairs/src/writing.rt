@@ -1,3 +1,8 @@
+ghost use Rattle.std.specs.Prelude.{OnOk};
+ghost use Rattle.std.specs.Io.KnownBytes.{Appends};
+ghost use Rattle.pair_listings.specs.Tables.{entry_of, offsets_of};
+ghost use Rattle.pair_listings.specs.Pages.{pairs_text};
+
 use pair_listings::{Job, first_page, named_set, next_piece};
 use std::io::Write;
 use tool_files::{Trouble, not_listed, write_pieces};
@@ -9,7 +14,9 @@ pub fn write_pairs<W: Write, E: Write>(
     table: &[u64],
     out: &mut W,
     err: &mut E,
-) -> Result<(), Trouble> {
+) -> Result<(), Trouble>
+    ensures { OnOk result (Appends (W.contents out.old) (W.contents out.new) (pairs_text job (entry_of table.now) (offsets_of words.now))) }
+{
     write_pieces(
         first_page(job),
         |page, buffer| next_piece(job, words, table, page, buffer),
