@@ -1,15 +1,15 @@
 -- A text that is read byte by byte, and what a reader then holds of it. Assumes nothing.
 use mathlib.Core.Path.{◌≡◌, refl, sym, ap, subst, ◌∙◌}
 use mathlib.Core.List.{List, [], ◌∷◌, ◌++◌, append-nil, append_assoc}
-use Prim.Native.Nat.{ℕ, ◌+◌, ◌≤◌, ◌<◌}
+use Prim.Native.Nat.{ℕ, ◌+◌, ◌<◌}
 use native.Mathlib.Omega.{arith}
 use native.Mathlib.Numerals.{add-one}
 use lib.ListN.{length, take, get_or}
 use lib.Seq.{take-suc, length-take-le}
 use Rattle.std.proofs.lemmas.List.{take_all}
 use Rattle.text_lines.specs.Rests.{HoldsRest, Within}
-use Rattle.text_lines.specs.Readers.{Reads, at_start, line_ends, byte_joins, Finishes, no_line, last_line, ReadTo}
-use Rattle.text_lines.specs.Texts.{Text, take_byte, take_bytes, at_end}
+use Rattle.text_lines.specs.Readers.{Reads, at_start, line_ends, byte_joins, Finishes, no_line, last_line, ReadTo, Keeps, HoldsText}
+use Rattle.text_lines.specs.Texts.{Text, take_bytes, at_end}
 use Rattle.text_lines.specs.declared.open_line.OpenLine.{OpenLine}
 use Rattle.text_lines.proofs.PieceLaws.{pieces, byte_ends, byte_joins as byte_kept, end_none, end_some}
 
@@ -83,19 +83,48 @@ module _ {S F : Type 0} (Ended : S → List ℕ → S → Type 0) (step : List �
       subst (λ (f : F). H f s') (sym (end_some step t (λ z. n (sym (ap length h.same) ∙ z))))
       (each s s' t.file t.rest (subst (λ (xs : List ℕ). Ended s (take 2052 xs) s') (sym h.same) e) h.file)
 
--- what every ended line keeps is kept by a piece, and by the end
-module _ {S : Type 0} {Ended : S → List ℕ → S → Type 0} (K : S → Type 0) (each : (s s' : S) (line : List ℕ) → Ended s line s' → K s → K s') where
-  pub reads_keep : {s : S} {rest : List ℕ} {s' : S} {after bytes : List ℕ} → Reads Ended s rest bytes s' after → K s → K s'
-  reads_keep at_start k = k
-  reads_keep (line_ends {after = after} {s = s₁} {s' = s₂} r e) k = each s₁ s₂ (take 2052 after) e (reads_keep r k)
-  reads_keep (byte_joins r n) k = reads_keep r k
-
-  pub finish_keeps : {s s' : S} {rest : List ℕ} → Finishes Ended s rest s' → K s → K s'
-  finish_keeps (no_line z) k = k
-  finish_keeps {s = s} {s' = s'} {rest = rest} (last_line n e) k = each s s' (take 2052 rest) e k
-
 -- an open line holds the bytes that it has
 pub own_rest : (bytes : List ℕ) (n : ℕ) → Within n bytes → HoldsRest (take n bytes) n bytes
 own_rest bytes n w =
     let long = length-take-le n bytes (omega (arith, w.fits, w.room)) in
     record { line_long = w.room; rest_length = omega (arith, long, w.fits); rest_bytes = sym (take_all 2052 (take n bytes) (omega (arith, long, w.fits))) }
+
+-- ---- a reader that keeps what it is lent, and holds a file
+
+record Held {S K F : Type 0} (kept : S → K) (H : F → S → Type 0) (start : S) (f : F) (s : S) : Type 0 where
+  pub same : kept s ≡ kept start
+  pub holds : H f s
+
+module _ {S K F : Type 0} {kept : S → K} {step : K → List ℕ → F → F} {H : F → S → Type 0} {start : S} where
+  held_each : (s s' : S) (f : F) (full : List ℕ) → Keeps kept step H s (take 2052 full) s' → Held kept H start f s → Held kept H start (step (kept start) full f) s'
+  held_each s s' f full e h = record { same = e.same ∙ h.same; holds = subst (λ (k : K). H (step k full f) s') h.same (e.holds f full refl h.holds) }
+
+  -- a piece
+  reads_keep : {rest bytes after : List ℕ} {s : S} → Reads (Keeps kept step H) start rest bytes s after → kept s ≡ kept start
+  reads_keep at_start = refl
+  reads_keep (line_ends r e) = e.same ∙ reads_keep r
+  reads_keep (byte_joins r n) = reads_keep r
+
+  module _ (line : OpenLine) {line' : OpenLine} {piece : List ℕ} {s : S}
+      (read : (rest : List ℕ) → HoldsRest rest line.length line.bytes → ReadTo (Keeps kept step H) start rest piece s line') where
+    pub piece_keeps : kept s ≡ kept start
+    piece_keeps = reads_keep (read _ (own_rest line.bytes line.length line.within)).reads
+
+    pub piece_holds : (t : Text F) → HoldsText H t start line → HoldsText H (take_bytes (step (kept start)) t piece) s line'
+    piece_holds t h =
+        let r = read t.rest h.rest in
+        let g = reads_hold (Keeps kept step H) (step (kept start)) (Held kept H start) held_each r.reads t (record { file = record { same = refl; holds = h.file }; same = refl }) in
+        record { file = g.file.holds; rest = subst (λ (xs : List ℕ). HoldsRest xs line'.length line'.bytes) (sym g.same) r.holds }
+
+  -- the end
+  finish_keeps : {rest : List ℕ} {s : S} → Finishes (Keeps kept step H) start rest s → kept s ≡ kept start
+  finish_keeps (no_line z) = refl
+  finish_keeps (last_line n e) = e.same
+
+  module _ (line : OpenLine) {s : S} (finished : (rest : List ℕ) → HoldsRest rest line.length line.bytes → Finishes (Keeps kept step H) start rest s) where
+    pub end_keeps : kept s ≡ kept start
+    end_keeps = finish_keeps (finished _ (own_rest line.bytes line.length line.within))
+
+    pub end_holds : (t : Text F) → HoldsText H t start line → H (at_end (step (kept start)) t) s
+    end_holds t h =
+        (finish_holds (Keeps kept step H) (step (kept start)) (Held kept H start) held_each (finished t.rest h.rest) t (record { file = record { same = refl; holds = h.file }; same = refl })).holds

@@ -10,13 +10,11 @@ use lib.Dec.{ltb}
 use lib.ListN.{length, take, set, length-append, length-take, length-set}
 use lib.Seq.{sets, length-sets, take_all, take-take, take-append-le, take-suc-set}
 use Rattle.word_bits.proofs.Order.{lt-or-le}
-use Rattle.byte_texts.specs.Texts.{Written, written}
+use Rattle.byte_texts.specs.Texts.{written}
+use Rattle.byte_texts.specs.Growth.{Appended}
+use Rattle.byte_texts.specs.declared.texts.Text.{Text}
 use Rattle.byte_texts.proofs.TextLaws.{sets_out}
-
--- a buffer that starts with what is said, as far as it has room
-pub record Reported (said : List ℕ) (end : ℕ) (out : List ℕ) : Type 0 where
-  pub report_end : end ≡ min (length out) (length said)
-  pub reported : take end out ≡ take end said
+use Rattle.text_lines.specs.Tallies.{Reported}
 
 -- what is written stands behind what was there, as far as there is room
 written_start : (text out : List ℕ) (at : ℕ) → take (min (length out) (at + length text)) (sets out at text) ≡ take (min (length out) (at + length text)) (take at out ++ text)
@@ -37,36 +35,32 @@ written_start (b ∷ bs) out at = go (lt-or-le at (length out)) (written_start b
     go (inr g) same =
         ap (take end) (sets_out (b ∷ bs) out at g ∙ sym (take_all at out g)) ∙ sym (take-append-le end (take at out) (b ∷ bs) (rw (take_all at out g) (omega arith)))
 
-module _ (said more out : List ℕ) (at : ℕ) (r : Reported said at out) where
+module _ {said : List ℕ} {before : Text} (r : Reported said before) (more : List ℕ) where
   -- what was said is there as far as there is room
-  behind : (end : ℕ) → end ≤ length out → take end (take at said ++ more) ≡ take end (said ++ more)
-  behind end h = go (lt-or-le (length out) (length said))
+  behind : (end : ℕ) → end ≤ length before.out.now → take end (take before.end said ++ more) ≡ take end (said ++ more)
+  behind end h = go (lt-or-le (length before.out.now) (length said))
     where
-      go : (length out < length said) ⊎ (length said ≤ length out) → take end (take at said ++ more) ≡ take end (said ++ more)
+      go : (length before.out.now < length said) ⊎ (length said ≤ length before.out.now) → take end (take before.end said ++ more) ≡ take end (said ++ more)
       go (inl l) =
-          let e : at ≡ length out = omega (arith, r.report_end) in
-          take-append-le end (take at said) more (rw length-take (omega arith)) ∙ take-take end at said (omega arith) ∙ sym (take-append-le end said more (omega arith))
-      go (inr g) = ap (λ (xs : List ℕ). take end (xs ++ more)) (take_all at said (omega (arith, r.report_end)))
+          let e : before.end ≡ length before.out.now = omega (arith, r.report_end) in
+          take-append-le end (take before.end said) more (rw length-take (omega arith)) ∙ take-take end before.end said (omega arith)
+          ∙ sym (take-append-le end said more (omega arith))
+      go (inr g) = ap (λ (xs : List ℕ). take end (xs ++ more)) (take_all before.end said (omega (arith, r.report_end)))
 
-  -- a text written behind it
-  pub reported_more : {end : ℕ} {after : List ℕ} → record { end = end; out = after } ≡ written out at more → Reported (said ++ more) end after
+  -- a text behind it
+  pub reported_more : {after : Text} → Appended before after more → Reported (said ++ more) after
   unfolding written
-  reported_more {end} {after} e = record {
-    report_end = place ∙ rw (ap (λ (w : Written). w.out) e, length-sets, length-append) (omega (arith, r.report_end));
+  reported_more {after} e = record {
+    report_end = e.end ∙ rw (e.out, length-sets, length-append) (omega (arith, r.report_end));
     reported =
-        ap₂ take place (ap (λ (w : Written). w.out) e) ∙ written_start more out at
-        ∙ ap (λ (xs : List ℕ). take (min (length out) (at + length more)) (xs ++ more)) r.reported
-        ∙ behind (min (length out) (at + length more)) (omega arith) ∙ ap (λ (n : ℕ). take n (said ++ more)) (sym place);
+        ap₂ take e.end e.out ∙ written_start more before.out.now before.end
+        ∙ ap (λ (xs : List ℕ). take (min (length before.out.now) (before.end + length more)) (xs ++ more)) r.reported
+        ∙ behind (min (length before.out.now) (before.end + length more)) (omega arith) ∙ ap (λ (n : ℕ). take n (said ++ more)) (sym e.end);
   }
-    where
-      place : end ≡ min (length out) (at + length more)
-      place = ap (λ (w : Written). w.end) e
 
--- the first 20 are said, and no more
-module _ (said more out : List ℕ) (at n : ℕ) (r : Reported said at out) where
-  pub reported_first : n < 20 → {end : ℕ} {after : List ℕ} → record { end = end; out = after } ≡ written out at more
-      → Reported (said ++ cond (ltb n 20) more []) end after
-  reported_first l e = rw (lt-ltb n 20 l) (reported_more said more out at r e)
+  -- the first 20 are said, and no more
+  pub reported_first : {n : ℕ} → n < 20 → {after : Text} → Appended before after more → Reported (said ++ cond (ltb n 20) more []) after
+  reported_first {n} l e = rw (lt-ltb n 20 l) (reported_more e)
 
-  pub reported_enough : 20 ≤ n → Reported (said ++ cond (ltb n 20) more []) at out
-  reported_enough g = rw (le-ltb n 20 g, append-nil) r
+  pub reported_enough : {n : ℕ} → 20 ≤ n → Reported (said ++ cond (ltb n 20) more []) before
+  reported_enough {n} g = rw (le-ltb n 20 g, append-nil) r

@@ -1,5 +1,6 @@
 -- What a reader makes of a text: `Ended` says what an ended line, of which 2,052 bytes are held, makes of it.
 use Rattle.std.specs.Prelude.{◌≡◌, List, [], ◌∷◌, ◌++◌, ℕ, length, take}
+use Rattle.text_lines.specs.Texts.{Text}
 use Rattle.text_lines.specs.Rests.{HoldsRest}
 use Rattle.text_lines.specs.declared.open_line.OpenLine.{OpenLine}
 
@@ -20,3 +21,13 @@ module _ {S : Type 0} (Ended : S → List ℕ → S → Type 0) (start : S) (res
     pub after : List ℕ
     pub reads : Reads bytes s after
     pub holds : HoldsRest after line.length line.bytes
+
+-- a reader that holds a file: H says how. An ended line leaves what `kept` has of the reader, and makes `step` of the file
+pub record Keeps {S K F : Type 0} (kept : S → K) (step : K → List ℕ → F → F) (H : F → S → Type 0) (r : S) (line : List ℕ) (after : S) : Type 0 where
+  pub same : kept after ≡ kept r
+  pub holds : (f : F) (full : List ℕ) → line ≡ take 2052 full → H f r → H (step (kept r) full f) after
+
+-- it holds a text that is read so far: its lines, and the bytes of the line that is not ended
+pub record HoldsText {S F : Type 0} (H : F → S → Type 0) (t : Text F) (r : S) (line : OpenLine) : Type 0 where
+  pub file : H t.file r
+  pub rest : HoldsRest t.rest line.length line.bytes

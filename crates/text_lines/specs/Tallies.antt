@@ -1,5 +1,6 @@
 -- What is counted of the lines of a text, and what a reader holds of that.
 use Rattle.std.specs.Prelude.{◌≡◌, Bool, true, cond, List, [], ◌++◌, ℕ, min, eqb, ltb, length, take}
+use Rattle.byte_texts.specs.declared.texts.Text.{Text}
 use Rattle.text_lines.specs.Texts.{more}
 use Rattle.text_lines.specs.Messages.{bad_text, wrong_text}
 use Rattle.text_lines.specs.declared.tally.Tally.{Tally}
@@ -12,14 +13,22 @@ pub record Counts : Type 0 where
   pub bads : ℕ
   pub report : List ℕ
 
--- the report stands at the start of its buffer, as far as that has room
-pub record HoldsCounts (f : Counts) (r : Tally) (report : List ℕ) : Type 0 where
+-- a report that starts with what is said, as far as its buffer has room
+pub record Reported (said : List ℕ) (report : Text) : Type 0 where
+  pub report_end : report.end ≡ min (length report.out.now) (length said)
+  pub reported : take report.end report.out.now ≡ take report.end said
+
+-- the report stands at the start of its buffer
+pub record HoldsCounts (f : Counts) (r : Tally) (text : Text) : Type 0 where
   pub lines : r.lines ≡ f.lines
   pub named : r.named ≡ f.named
   pub said : r.said ≡ f.said
   pub bads : r.bads ≡ f.bads
-  pub report_end : r.report ≡ min (length report) (length f.report)
-  pub reported : take r.report report ≡ take r.report f.report
+  pub report : Reported f.report text
+
+-- a reader's counts with a bad line more
+abbrev pub bad_tally : Tally → Tally
+bad_tally r = record { lines = more r.lines; named = r.named; said = r.said; bads = more r.bads }
 
 -- a line with nothing to say
 unfoldable pub blank_counts : Counts → Counts

@@ -7,6 +7,8 @@ mod numbers;
 mod open_line;
 mod readers;
 mod tally;
+mod text_reader;
+mod wrong_counts;
 
 pub use bytes::starts_with_mark;
 pub use messages::{append_bad, append_place};
@@ -14,3 +16,4 @@ pub use numbers::more;
 pub use open_line::OpenLine;
 pub use readers::{LineReader, finish, take};
 pub use tally::Tally;
+pub use text_reader::TextReader;

@@ -1,10 +1,10 @@
-#![tactic(auto, using(byte_texts::proofs::TextLaws::written_more), unfolding(byte_texts::specs::Ascii::ascii, crate::specs::Messages::bad_text, crate::specs::Messages::wrong_text))]
+#![tactic(auto, using(byte_texts::proofs::TextLaws::written_more), unfolding(byte_texts::specs::Ascii::ascii, crate::specs::Messages::bad_text))]
 
 ghost use Rattle.std.specs.Prelude.{◌≡◌, ◌++◌};
 ghost use Rattle.byte_texts.specs.Ascii.{ascii};
 ghost use Rattle.byte_texts.specs.Texts.{decimal};
 ghost use Rattle.byte_texts.specs.Growth.{Appended};
-ghost use Rattle.text_lines.specs.Messages.{bad_text, wrong_text};
+ghost use Rattle.text_lines.specs.Messages.{bad_text};
 
 use byte_texts::Text;
 
@@ -28,14 +28,4 @@ pub fn append_bad(report: &mut Text, name: &[u8], line: usize, reason: &[u8], bo
     report.append(b": ");
     report.append_text(body);
     report.append(b"\n");
-}
-
-// The numbers of a wrong last line.
-pub(crate) fn append_wrong_count(report: &mut Text, says: usize, items: &[u8], names: usize)
-    ensures { Appended report.old report.new (wrong_text says items.now names) }
-{
-    report.append(b"says ");
-    report.append_decimal(says as u64);
-    report.append(items);
-    report.append_decimal(names as u64);
 }

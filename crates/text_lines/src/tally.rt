@@ -1,58 +1,39 @@
-ghost use Rattle.std.specs.Prelude.{◌≡◌, ◌≤◌, List, ℕ, length};
-ghost use Rattle.byte_texts.specs.Texts.{written, shown_text};
-ghost use Rattle.text_lines.specs.Messages.{bad_text, wrong_text};
-ghost use Rattle.text_lines.specs.Tallies.{Counts, HoldsCounts, blank_counts, bad_counts, said_counts};
+ghost use Rattle.std.specs.Prelude.{◌≡◌, false, List, ℕ};
+ghost use Rattle.byte_texts.specs.Texts.{shown_text};
+ghost use Rattle.byte_texts.specs.declared.texts.Text.{Text as TextOf};
+ghost use Rattle.text_lines.specs.Messages.{wrong_text};
+ghost use Rattle.text_lines.specs.Tallies.{Counts, HoldsCounts, blank_counts, bad_counts, said_counts, bad_tally};
 
-use crate::messages::{append_bad, append_wrong_count};
+use crate::messages::append_bad;
 use crate::numbers::more;
+use crate::wrong_counts::append_wrong_count;
 use byte_texts::Text;
 
-// What is counted of the lines of a text: how many are ended, how many items they name, whether a last line of a list is among them, how many are bad,
-// and where the report of the bad ones ends in its buffer.
+// What is counted of the lines of a text: how many are ended, how many items they name, whether a last line of a list is among them, and how many are bad.
 #[derive(Clone, Copy)]
 pub struct Tally {
     pub lines: usize,
     pub named: usize,
     pub said: bool,
     pub bads: usize,
-    pub report: usize,
-}
-
-// A bad line behind what the report has.
-fn say_bad(
-    report: &mut [u8],
-    at: usize,
-    name: &[u8],
-    line: usize,
-    reason: &[u8],
-    body: &[u8],
-) -> usize
-    ensures { record { end = result; out = report.new } ≡ written report.old at (bad_text name.now line reason.now body.now) }
-{
-    let mut text = Text {
-        out: report,
-        end: at,
-    };
-    append_bad(&mut text, name, line, reason, body);
-    text.end
-}
-
-// The numbers of a wrong last line.
-fn write_wrong_count(reason: &mut [u8], says: usize, items: &[u8], named: usize) -> usize
-    ensures { record { end = result; out = reason.new } ≡ written reason.old 0 (wrong_text says items.now named) }
-{
-    let mut text = Text {
-        out: reason,
-        end: 0,
-    };
-    append_wrong_count(&mut text, says, items, named);
-    text.end
 }
 
 impl Tally {
+    // Nothing is counted.
+    pub fn new() -> Tally
+        ensures { result ≡ record { lines = 0; named = 0; said = false; bads = 0 } }
+    {
+        Tally {
+            lines: 0,
+            named: 0,
+            said: false,
+            bads: 0,
+        }
+    }
+
     // A line with nothing to say.
     pub fn blank_line(self) -> Tally
-        ensures { (f : Counts) (report : List ℕ) → HoldsCounts f self report → HoldsCounts (blank_counts f) result report }
+        ensures { (f : Counts) (report : TextOf) → HoldsCounts f self report → HoldsCounts (blank_counts f) result report }
     {
         Tally {
             lines: more(self.lines),
@@ -60,20 +41,27 @@ impl Tally {
         }
     }
 
+    // A bad line more.
+    fn bad_more(self) -> Tally
+        ensures { result ≡ bad_tally self }
+    {
+        Tally {
+            lines: more(self.lines),
+            bads: more(self.bads),
+            ..self
+        }
+    }
+
     // A line that may not stand there. The first 20 are said.
-    pub fn bad_line(self, name: &[u8], body: &[u8], reason: &[u8], report: &mut [u8]) -> Tally
-        ensures { (f : Counts) (full : List ℕ) → shown_text body.now ≡ shown_text full
+    pub fn bad_line(self, name: &[u8], body: &[u8], reason: &[u8], report: &mut Text) -> Tally
+        ensures same_buffer { report.new.out.ghost_name ≡ report.old.out.ghost_name }
+        ensures counted { (f : Counts) (full : List ℕ) → shown_text body.now ≡ shown_text full
             → HoldsCounts f self report.old
             → HoldsCounts (bad_counts name.now full reason.now f) result report.new }
     {
-        let lines = more(self.lines);
-        let mut next = Tally {
-            lines,
-            bads: more(self.bads),
-            ..self
-        };
+        let next = self.bad_more();
         if self.bads < 20 {
-            next.report = say_bad(report, self.report, name, lines, reason, body);
+            append_bad(report, name, next.lines, reason, body);
         }
         next
     }
@@ -85,15 +73,18 @@ impl Tally {
         body: &[u8],
         says: usize,
         items: &[u8],
-        report: &mut [u8],
+        report: &mut Text,
     ) -> Tally
-        ensures { (f : Counts) (full : List ℕ) → length items.now ≤ 19 → shown_text body.now ≡ shown_text full
+        ensures same_buffer { report.new.out.ghost_name ≡ report.old.out.ghost_name }
+        ensures counted { (f : Counts) (full : List ℕ) → shown_text body.now ≡ shown_text full
             → HoldsCounts f self report.old
-            → HoldsCounts (bad_counts name.now full (wrong_text says items.now f.named) f) result report.new }
+            → HoldsCounts (bad_counts name.now full (wrong_text says items.now self.named) f) result report.new }
     {
-        let mut reason = [0u8; 64];
-        let end = write_wrong_count(&mut reason, says, items, self.named);
-        self.bad_line(name, body, &reason[..end], report)
+        let next = self.bad_more();
+        if self.bads < 20 {
+            append_wrong_count(report, name, next.lines, says, items, self.named, body);
+        }
+        next
     }
 
     // The last line of a list. `items` are the words between the number that it says and the number that the list names.
@@ -103,9 +94,10 @@ impl Tally {
         body: &[u8],
         says: usize,
         items: &[u8],
-        report: &mut [u8],
+        report: &mut Text,
     ) -> Tally
-        ensures { (f : Counts) (full : List ℕ) → length items.now ≤ 19 → shown_text body.now ≡ shown_text full
+        ensures same_buffer { report.new.out.ghost_name ≡ report.old.out.ghost_name }
+        ensures counted { (f : Counts) (full : List ℕ) → shown_text body.now ≡ shown_text full
             → HoldsCounts f self report.old
             → HoldsCounts (said_counts name.now full says items.now f) result report.new }
     {

@@ -15,8 +15,8 @@ loop-byte-preserved g c = λ rest h.
     let i = c.loop-byte.invariant rest h in
     let piece = c.args.piece.now in
     elim c.if-byte-eq10.branch [
-      | then-byte-eq10 w ↦ rw (w.reader-is, w.line-is) (read_line piece i c.loop-byte-test.true w.if-byte-eq10.true w.held.ensures w.take_line.ensures w.clear.ensures)
-      | else-byte-eq10 w ↦ rw (w.reader-is, w.line-is) (read_byte piece i c.loop-byte-test.true w.if-byte-eq10.false w.push.ensures)
+      | then-byte-eq10 w ↦ rw (w.reader-is, w.line-is) (read_line piece i c.loop-byte-test.true w.if-byte-eq10.true w.held.ensures.held w.take_line.ensures w.clear.ensures.holds)
+      | else-byte-eq10 w ↦ rw (w.reader-is, w.line-is) (read_byte piece i c.loop-byte-test.true w.if-byte-eq10.false w.push.ensures.holds)
     ]
 
 pub returns : goal.returns
