@@ -8,6 +8,7 @@ use borrow.Author.Tests.{eq-eqb, ne_eqb}
 use lib.Dec.{eqb}
 use lib.ListN.{get_or}
 use Rattle.byte_texts.specs.Ascii.{ascii}
+use Rattle.byte_texts.specs.declared.texts.Text.{Text}
 use Rattle.offset_files.specs.Files.{File, blank_line, bad_line, new_offset, second_naming, offset_line}
 use Rattle.offset_files.specs.Holds.{HoldsFile}
 use Rattle.offset_files.specs.declared.reading.Reading.{Reading}
@@ -29,7 +30,7 @@ chosen name full offset f said none again =
     cond said (bad_line name full (ascii "an offset behind the last line of a list") f)
     (cond none (new_offset offset f) (cond again (blank_line f) (second_naming name offset f)))
 
-module _ {f : File} {r : Reading} {words table report : List ℕ} (h : HoldsFile f r words table report) (offset : ℕ) (below : offset < 65536) where
+module _ {f : File} {r : Reading} {words table : List ℕ} {report : Text} (h : HoldsFile f r words table report) (offset : ℕ) (below : offset < 65536) where
   pub first_is : get_or table offset 0 / 2 ≡ f.first offset
   first_is = ap (λ (w : ℕ). w / 2) (h.entries offset below) ∙ table-first (f.first offset) (f.again offset)
 
@@ -45,7 +46,7 @@ module _ {f : File} {r : Reading} {words table report : List ℕ} (h : HoldsFile
   pub named-once : (get_or table offset 0 % 2 ≡ 1 → ⊥) → f.again offset ≡ false
   named-once o = again_no (f.again offset) (λ z. o (again_is ∙ z))
 
-  module _ (name full : List ℕ) {s : Reading} {words' table' report' : List ℕ} where
+  module _ (name full : List ℕ) {s : Reading} {words' table' : List ℕ} {report' : Text} where
     choose : {said none again : Bool} → r.tally.said ≡ said → eqb (f.first offset) 0 ≡ none → f.again offset ≡ again → HoldsFile (chosen name full offset f said none again) s words' table' report'
         → HoldsFile (offset_line name full offset f) s words' table' report'
     unfolding offset_line chosen

@@ -2,6 +2,7 @@
 use Rattle.std.specs.Prelude.{◌≡◌, Bool, cond, not, List, ℕ, ◌+◌, ◌*◌, ◌<◌, eqb, length, get_or}
 use Rattle.sets.specs.Members.{read}
 use Rattle.sets.specs.declared.fixed_bit_set.FixedBitSet.{FixedBitSet}
+use Rattle.byte_texts.specs.declared.texts.Text.{Text}
 use Rattle.text_lines.specs.Tallies.{Counts, HoldsCounts}
 use Rattle.offset_files.specs.Files.{File}
 use Rattle.offset_files.specs.declared.reading.Reading.{Reading}
@@ -18,7 +19,7 @@ all_offsets = record { length = 65536 }
 abbrev pub counts_of : File → Counts
 counts_of f = record { lines = f.lines; named = f.named; said = f.said; bads = f.bads; report = f.report }
 
-pub record HoldsFile (f : File) (r : Reading) (words table report : List ℕ) : Type 0 where
+pub record HoldsFile (f : File) (r : Reading) (words table : List ℕ) (report : Text) : Type 0 where
   -- the report stands at the start of its buffer, as far as that has room
   pub counts : HoldsCounts (counts_of f) r.tally report
   pub repeats : r.repeats ≡ f.repeats

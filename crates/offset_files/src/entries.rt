@@ -1,8 +1,8 @@
 ghost use Rattle.std.specs.Prelude.{◌≡◌, false, List, ℕ, ◌<◌};
-ghost use Rattle.byte_texts.specs.Texts.{written, shown_text};
+ghost use Rattle.byte_texts.specs.Texts.{shown_text};
+ghost use Rattle.byte_texts.specs.declared.texts.Text.{Text as TextOf};
 ghost use Rattle.offset_files.specs.Files.{File, blank_line, bad_line, new_offset, second_naming, offset_line, said_line};
 ghost use Rattle.offset_files.specs.Holds.{HoldsFile};
-ghost use Rattle.offset_files.specs.Messages.{repeat_text};
 
 use crate::messages::append_repeat;
 use crate::reading::Reading;
@@ -14,7 +14,7 @@ use text_lines::{Tally, more};
 
 // A line with nothing to say.
 pub fn blank_line(reading: Reading) -> Reading
-    ensures { (f : File) (words table report : List ℕ) → HoldsFile f reading words table report → HoldsFile (blank_line f) result words table report }
+    ensures { (f : File) (words table : List ℕ) (report : TextOf) → HoldsFile f reading words table report → HoldsFile (blank_line f) result words table report }
 {
     Reading {
         tally: reading.tally.blank_line(),
@@ -28,9 +28,10 @@ pub fn bad_line(
     name: &[u8],
     body: &[u8],
     reason: &[u8],
-    report: &mut [u8],
+    report: &mut Text,
 ) -> Reading
-    ensures { (f : File) (full words table : List ℕ) → shown_text body.now ≡ shown_text full
+    ensures same_buffer { report.new.out.ghost_name ≡ report.old.out.ghost_name }
+    ensures held { (f : File) (full words table : List ℕ) → shown_text body.now ≡ shown_text full
         → HoldsFile f reading words table report.old
         → HoldsFile (bad_line name.now full reason.now f) result words table report.new }
 {
@@ -46,9 +47,10 @@ pub fn said_line(
     name: &[u8],
     body: &[u8],
     says: usize,
-    report: &mut [u8],
+    report: &mut Text,
 ) -> Reading
-    ensures { (f : File) (full words table : List ℕ) → shown_text body.now ≡ shown_text full
+    ensures same_buffer { report.new.out.ghost_name ≡ report.old.out.ghost_name }
+    ensures held { (f : File) (full words table : List ℕ) → shown_text body.now ≡ shown_text full
         → HoldsFile f reading words table report.old
         → HoldsFile (said_line name.now full says f) result words table report.new }
 {
@@ -62,7 +64,7 @@ pub fn said_line(
 
 // An offset that no earlier line names: it becomes a member, and the table has its line.
 fn new_offset(reading: Reading, offset: usize, words: &mut [u64], table: &mut [u64]) -> Reading
-    ensures { (f : File) (report : List ℕ) → offset < 65536 → f.first offset ≡ 0
+    ensures { (f : File) (report : TextOf) → offset < 65536 → f.first offset ≡ 0
         → HoldsFile f reading words.old table.old report
         → HoldsFile (new_offset offset f) result words.new table.new report }
 {
@@ -80,34 +82,16 @@ fn new_offset(reading: Reading, offset: usize, words: &mut [u64], table: &mut [u
     Reading { tally, ..reading }
 }
 
-// An offset that is named again, behind what the report has.
-fn say_repeat(
-    report: &mut [u8],
-    at: usize,
-    name: &[u8],
-    line: usize,
-    offset: usize,
-    first: u64,
-) -> usize
-    ensures { record { end = result; out = report.new } ≡ written report.old at (repeat_text name.now line offset first) }
-{
-    let mut text = Text {
-        out: report,
-        end: at,
-    };
-    append_repeat(&mut text, name, line, offset, first);
-    text.end
-}
-
 // An offset that one earlier line names: the table has that it is named again.
 fn second_naming(
     reading: Reading,
     name: &[u8],
     offset: usize,
     table: &mut [u64],
-    report: &mut [u8],
+    report: &mut Text,
 ) -> Reading
-    ensures { (f : File) (words : List ℕ) → offset < 65536 → f.again offset ≡ false
+    ensures same_buffer { report.new.out.ghost_name ≡ report.old.out.ghost_name }
+    ensures held { (f : File) (words : List ℕ) → offset < 65536 → f.again offset ≡ false
         → HoldsFile f reading words table.old report.old
         → HoldsFile (second_naming name.now offset f) result words table.new report.new }
 {
@@ -117,17 +101,15 @@ fn second_naming(
     let first = table[offset] / 2;
     table[offset] = first * 2 + 1;
     let line = more(reading.tally.lines);
-    let mut next = Reading {
-        tally: Tally {
-            lines: line,
-            ..reading.tally
-        },
-        repeats: more(reading.repeats),
-    };
+    let repeats = more(reading.repeats);
     if reading.repeats < 20 {
-        next.tally.report = say_repeat(report, reading.tally.report, name, line, offset, first);
+        append_repeat(report, name, line, offset, first);
     }
-    next
+    let tally = Tally {
+        lines: line,
+        ..reading.tally
+    };
+    Reading { tally, repeats }
 }
 
 // An offset: none may stand behind the last line of a list.
@@ -138,9 +120,10 @@ pub fn offset_line(
     offset: usize,
     words: &mut [u64],
     table: &mut [u64],
-    report: &mut [u8],
+    report: &mut Text,
 ) -> Reading
-    ensures { (f : File) (full : List ℕ) → shown_text body.now ≡ shown_text full → offset < 65536
+    ensures same_buffer { report.new.out.ghost_name ≡ report.old.out.ghost_name }
+    ensures held { (f : File) (full : List ℕ) → shown_text body.now ≡ shown_text full → offset < 65536
         → HoldsFile f reading words.old table.old report.old
         → HoldsFile (offset_line name.now full offset f) result words.new table.new report.new }
 {

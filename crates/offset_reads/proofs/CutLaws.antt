@@ -2,6 +2,7 @@
 use mathlib.Core.Path.{◌≡◌, sym, subst}
 use mathlib.Core.List.{List}
 use Prim.Native.Nat.{ℕ}
+use Rattle.byte_texts.specs.declared.texts.Text.{Text}
 use Rattle.offset_lines.specs.Lines.{line_of}
 use Rattle.std.specs.Prelude.{Result}
 use Rattle.offset_lines.specs.declared.entry.Entry.{Entry}
@@ -11,7 +12,7 @@ use Rattle.offset_files.specs.Files.{File, entry_line, take_line}
 use Rattle.offset_files.specs.Holds.{HoldsFile}
 use Rattle.offset_files.specs.declared.reading.Reading.{Reading}
 
-module _ (name full : List ℕ) (f : File) {s : Reading} {words table report : List ℕ} where
+module _ (name full : List ℕ) (f : File) {s : Reading} {words table : List ℕ} {report : Text} where
   pub taken_as : (body : List ℕ) → body_of f.lines full ≡ body → HoldsFile (entry_line name body (line_of body) f) s words table report
       → HoldsFile (take_line name full f) s words table report
   unfolding take_line

@@ -1,4 +1,3 @@
 pub mod CutLaws
 pub mod StartLaws
 pub mod TextLaws
-pub mod ReadLaws

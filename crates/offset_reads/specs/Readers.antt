@@ -1,24 +1,34 @@
--- What an ended line makes of a reader of offsets.
-use Rattle.std.specs.Prelude.{◌≡◌, List, ℕ, take}
-use Rattle.text_lines.specs.Rests.{HoldsRest}
-use Rattle.text_lines.specs.declared.open_line.OpenLine.{OpenLine}
+-- What a reader of offsets keeps, and what it holds.
+use Rattle.std.specs.Prelude.{List, ℕ}
+use Rattle.std.specs.Borrow.{GName}
+use Rattle.text_lines.specs.Readers as Readers
+use Rattle.text_lines.specs.Readers.{Keeps}
 use Rattle.offset_files.specs.Files.{File, Text, take_line}
-use Rattle.offset_files.specs.declared.reading.Reading.{Reading}
 use Rattle.offset_files.specs.Holds.{HoldsFile}
 use Rattle.offset_reads.specs.declared.reader.OffsetReader.{OffsetReader}
 
-abbrev pub HoldsReader : File → OffsetReader → Type 0
-HoldsReader f r = HoldsFile f r.reading r.words.now r.table.now r.report.now
+-- its name and its buffers
+pub record Kept : Type 0 where
+  pub name : List ℕ
+  pub words : GName
+  pub table : GName
+  pub report : GName
 
--- the reader keeps its name and its buffers, and holds the file with the line
-pub record Ended (r : OffsetReader) (line : List ℕ) (after : OffsetReader) : Type 0 where
-  pub name : after.name.now ≡ r.name.now
-  pub words : after.words.ghost_name ≡ r.words.ghost_name
-  pub table : after.table.ghost_name ≡ r.table.ghost_name
-  pub report : after.report.ghost_name ≡ r.report.ghost_name
-  pub holds : (f : File) (full : List ℕ) → line ≡ take 2052 full → HoldsReader f r → HoldsReader (take_line r.name.now full f) after
+abbrev pub kept : OffsetReader → Kept
+kept r = record { name = r.name.now; words = r.words.ghost_name; table = r.table.ghost_name; report = r.report.out.ghost_name }
+
+-- one line more of a file of that name
+abbrev pub step : Kept → List ℕ → File → File
+step k = take_line k.name
+
+-- a file
+abbrev pub HoldsReader : File → OffsetReader → Type 0
+HoldsReader f r = HoldsFile f r.reading r.words.now r.table.now r.report
+
+-- what an ended line makes of the reader
+abbrev pub Ended : OffsetReader → List ℕ → OffsetReader → Type 0
+Ended = Keeps kept step HoldsReader
 
 -- a text that is read so far: its lines, and the bytes of the line that is not ended
-pub record HoldsText (t : Text) (r : Reading) (line : OpenLine) (words table report : List ℕ) : Type 0 where
-  pub file : HoldsFile t.file r words table report
-  pub rest : HoldsRest t.rest line.length line.bytes
+abbrev pub HoldsText : Text → OffsetReader → Type 0
+HoldsText t r = Readers.HoldsText HoldsReader t r r.line

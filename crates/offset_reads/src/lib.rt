@@ -3,7 +3,5 @@
 
 mod lines;
 mod reader;
-mod reads;
 
 pub use reader::OffsetReader;
-pub use reads::{finish, start, take};

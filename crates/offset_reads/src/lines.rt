@@ -4,6 +4,7 @@ ghost use Rattle.offset_lines.specs.Lines.{line_of};
 ghost use Rattle.offset_files.specs.Files.{File, entry_line, take_line};
 ghost use Rattle.offset_files.specs.Holds.{HoldsFile};
 
+use byte_texts::Text;
 use offset_files::{Reading, bad_line, blank_line, offset_line, said_line};
 use offset_lines::{Entry, fault_text, parse_line};
 use text_lines::starts_with_mark;
@@ -15,9 +16,10 @@ fn take_body(
     body: &[u8],
     words: &mut [u64],
     table: &mut [u64],
-    report: &mut [u8],
+    report: &mut Text,
 ) -> Reading
-    ensures { (f : File) (full : List ℕ) → line_of body.now ≡ line_of full → shown_text body.now ≡ shown_text full
+    ensures same_buffer { report.new.out.ghost_name ≡ report.old.out.ghost_name }
+    ensures held { (f : File) (full : List ℕ) → line_of body.now ≡ line_of full → shown_text body.now ≡ shown_text full
         → HoldsFile f reading words.old table.old report.old
         → HoldsFile (entry_line name.now full (line_of full) f) result words.new table.new report.new }
 {
@@ -36,9 +38,10 @@ pub(crate) fn take_line(
     line: &[u8],
     words: &mut [u64],
     table: &mut [u64],
-    report: &mut [u8],
+    report: &mut Text,
 ) -> Reading
-    ensures { (f : File) (full : List ℕ) → line.now ≡ take 2052 full
+    ensures same_buffer { report.new.out.ghost_name ≡ report.old.out.ghost_name }
+    ensures held { (f : File) (full : List ℕ) → line.now ≡ take 2052 full
         → HoldsFile f reading words.old table.old report.old
         → HoldsFile (take_line name.now full f) result words.new table.new report.new }
 {

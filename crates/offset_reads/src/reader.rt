@@ -1,8 +1,11 @@
-ghost use Rattle.offset_reads.specs.Readers.{Ended};
+ghost use Rattle.std.specs.Prelude.{◌≡◌, length};
+ghost use Rattle.offset_files.specs.Files.{File as FileOf, no_text};
+ghost use Rattle.offset_reads.specs.Readers.{Kept, kept, step, HoldsReader, Ended, HoldsText};
 
 use crate::lines::take_line;
+use byte_texts::Text;
 use offset_files::Reading;
-use text_lines::LineReader;
+use text_lines::{LineReader, OpenLine, Tally, TextReader};
 
 // A reader of a text of offsets, over lent buffers. `name` is the file's name as it is shown.
 #[derive(Drop)]
@@ -11,7 +14,35 @@ pub struct OffsetReader<'a> {
     pub reading: Reading,
     pub words: &'a mut [u64],
     pub table: &'a mut [u64],
-    pub report: &'a mut [u8],
+    pub report: Text<'a>,
+    pub line: OpenLine,
+}
+
+impl<'a> OffsetReader<'a> {
+    // Nothing is read. The words and the table are cleared.
+    pub fn new(
+        name: &'a [u8],
+        words: &'a mut [u64],
+        table: &'a mut [u64],
+        report: &'a mut [u8],
+    ) -> OffsetReader<'a>
+        ensures keeps { kept result ≡ record { name = name.entry.now; words = words.entry.ghost_name; table = table.entry.ghost_name; report = report.entry.ghost_name } }
+        ensures held { length words.old ≡ 1024 → length table.old ≡ 65536 → HoldsText no_text result }
+    {
+        words.fill(0);
+        table.fill(0);
+        OffsetReader {
+            name,
+            reading: Reading {
+                tally: Tally::new(),
+                repeats: 0,
+            },
+            words,
+            table,
+            report: Text::new(report),
+            line: OpenLine::new(),
+        }
+    }
 }
 
 impl<'a> LineReader for OffsetReader<'a> {
@@ -24,7 +55,32 @@ impl<'a> LineReader for OffsetReader<'a> {
             line,
             self.words,
             self.table,
-            self.report,
+            &mut self.report,
         );
+    }
+}
+
+impl<'a> TextReader for OffsetReader<'a> {
+    ghost Kept = { Kept };
+
+    ghost kept = { kept };
+
+    ghost File = { FileOf };
+
+    ghost step = { step };
+
+    ghost HoldsText = { HoldsText };
+
+    ghost HoldsFile = { HoldsReader };
+
+    fn take(&mut self, piece: &[u8]) {
+        let mut line = self.line;
+        text_lines::take(self, &mut line, piece);
+        self.line = line;
+    }
+
+    fn finish(&mut self) {
+        let line = self.line;
+        text_lines::finish(self, &line);
     }
 }

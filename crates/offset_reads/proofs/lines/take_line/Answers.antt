@@ -13,18 +13,18 @@ slice_bounds-take_body-count c = mark_long _ (sym c.starts_with_mark.ensures ∙
 pub slice_bounds-take_body-start : goal.slice_bounds-take_body-start
 slice_bounds-take_body-start c = mark_long _ (sym c.starts_with_mark.ensures ∙ c.if-starts_with_mark.true)
 
-pub returns-then-starts_with_mark : goal.returns-then-starts_with_mark
-returns-then-starts_with_mark c = λ f full e h.
+pub returns-then-starts_with_mark-clause-held : goal.returns-then-starts_with_mark-clause-held
+returns-then-starts_with_mark-clause-held c = λ f full e h.
     let d = body_decides line_of line_cut full e in
     taken_as _ full f _ (marked_body f.lines full e (sym h.counts.lines ∙ c.if-reading-eq0.true) (sym c.starts_with_mark.ensures ∙ c.if-starts_with_mark.true))
-    (c.take_body.ensures f _ d.is d.shown h)
+    (c.take_body.ensures.held f _ d.is d.shown h)
 
-pub returns : goal.returns
-returns c = λ f full e h.
+pub returns-clause-held : goal.returns-clause-held
+returns-clause-held c = λ f full e h.
     let d = held_decides line_of line_cut full e in
     taken_as _ full f full
     (plain_body f.lines full e (elim c.if-reading-eq0.branch [
       | then-reading-eq0+else-starts_with_mark w ↦ inr (sym w.starts_with_mark.ensures ∙ w.if-starts_with_mark.false)
       | else-reading-eq0 w ↦ inl (λ z. w.if-reading-eq0.false (h.counts.lines ∙ z))
     ]))
-    (c.take_body-2.ensures f full d.is d.shown h)
+    (c.take_body-2.ensures.held f full d.is d.shown h)
