@@ -9,6 +9,7 @@ use lib.Seq.{take_all}
 use Rattle.word_bits.specs.Counts.{count}
 use Rattle.word_bits.proofs.Ones.{count_ext}
 use Rattle.sets.specs.Members.{read}
+use Rattle.byte_texts.specs.declared.texts.Text.{Text}
 use Rattle.offset_lines.specs.Lines.{line_of}
 use Rattle.offset_file_laws.specs.Entries.{LineEntry}
 use Rattle.std.specs.Prelude.{Ok, Err}
@@ -69,7 +70,7 @@ module _ (name : List ℕ) where
 
   -- ---- what is held of the text
 
-  module _ (text : List ℕ) {r : Reading} {words table report : List ℕ} (h : HoldsFile (file_of name text) r words table report) where
+  module _ (text : List ℕ) {r : Reading} {words table : List ℕ} {report : Text} (h : HoldsFile (file_of name text) r words table report) where
     -- `named` is the number of members
     pub held_count : r.tally.named ≡ count 65536 (read words all_offsets).has
     held_count = h.counts.named ∙ (counted_is name text).is ∙ count_ext 65536 (has_line (file_of name text)) (read words all_offsets).has (λ p l. sym (h.members p l))
@@ -83,9 +84,9 @@ module _ (name : List ℕ) where
     held_says z n s = sym held_count ∙ h.counts.named ∙ good_says text n (sym h.counts.bads ∙ z) s
 
     -- a report that ends before its buffer does is there whole
-    pub held_report : r.tally.report < length report → take r.tally.report report ≡ (file_of name text).report
-    held_report l = h.counts.reported ∙ take_all r.tally.report (file_of name text).report (omega (arith, h.counts.report_end))
+    pub held_report : report.end < length report.out.now → take report.end report.out.now ≡ (file_of name text).report
+    held_report l = h.counts.report.reported ∙ take_all report.end (file_of name text).report (omega (arith, h.counts.report.report_end))
 
     -- and so is any in a buffer of 40 messages
-    pub held_room : 40 * room name ≤ length report → take r.tally.report report ≡ (file_of name text).report
-    held_room l = h.counts.reported ∙ take_all r.tally.report (file_of name text).report (let n = report_room name text in omega (arith, h.counts.report_end))
+    pub held_room : 40 * room name ≤ length report.out.now → take report.end report.out.now ≡ (file_of name text).report
+    held_room l = h.counts.report.reported ∙ take_all report.end (file_of name text).report (let n = report_room name text in omega (arith, h.counts.report.report_end))

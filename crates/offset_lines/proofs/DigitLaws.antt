@@ -1,6 +1,6 @@
 -- The digits that a text starts with, their number and their value, capped. Assumes nothing.
-use mathlib.Core.Path.{◌≡◌, sym, ap, ◌∙◌}
-use mathlib.Core.Bool.{true, false, cond}
+use mathlib.Core.Path.{◌≡◌, refl, sym, ap, ◌∙◌}
+use mathlib.Core.Bool.{Bool, true, false, cond}
 use mathlib.Core.Logic.{◌⊎◌, inl, inr}
 use mathlib.Core.List.{List, [], ◌∷◌}
 use Prim.Native.Nat.{ℕ, suc, ◌+◌, ◌*◌, ◌^◌, ◌≤◌, ◌<◌, min}
@@ -41,13 +41,21 @@ capped_more x p w = go (yes_no (ltb x 65537)) (eq-zero-or-pos p)
 
 -- ---- a value is held up to 65,536
 
-pub held_as : (value v : ℕ) → value ≡ min 65537 v → then_some (leb value 65536) value ≡ held_value v
+pub some_held : (v : ℕ) → then_some (leb v 65536) v ≡ held_value v
 unfolding held_value
-held_as value v e = go (yes_no (leb v 65536))
+some_held v = go (leb v 65536)
   where
-    go : (leb v 65536 ≡ true) ⊎ (leb v 65536 ≡ false) → then_some (leb value 65536) value ≡ held_value v
-    go (inl h) = let l = leb-true v 65536 h in let m : value ≡ v = omega (arith, e) in rw (m, h)
-    go (inr h) = let l = leb-false v 65536 h in rw (h, lt-leb value 65536 (omega (arith, e)))
+    go : (t : Bool) → then_some t v ≡ cond t (Some v) None
+    go true = refl
+    go false = refl
+
+held_capped : (v : ℕ) → held_value (min 65537 v) ≡ held_value v
+unfolding held_value
+held_capped v = go (yes_no (leb v 65536))
+  where
+    go : (leb v 65536 ≡ true) ⊎ (leb v 65536 ≡ false) → cond (leb (min 65537 v) 65536) (Some (min 65537 v)) None ≡ cond (leb v 65536) (Some v) None
+    go (inl h) = let l = leb-true v 65536 h in let m : min 65537 v ≡ v = omega arith in rw m refl
+    go (inr h) = let l = leb-false v 65536 h in rw (h, lt-leb (min 65537 v) 65536 (omega arith)) refl
 
 -- one digit, or none
 pub digit_some : (base b d : ℕ) → cond (is_digit base b) (Some (digit_value b)) None ≡ Some d → (is_digit base b ≡ true) × (digit_value b ≡ d)
@@ -113,8 +121,8 @@ module _ {base : ℕ} {text : List ℕ} {count value : ℕ} (r : Read base text 
         let s = r.small in
         omega (arith, v)
 
-    pub read_as : (held : Option ℕ) → ((v : ℕ) → value ≡ min 65537 v → held ≡ held_value v) → record { count = count; value = held } ≡ all_read base text
-    read_as held h = rw (sym count_all, h _ value_all)
+    pub read_as : (held : Option ℕ) → held ≡ held_value value → record { count = count; value = held } ≡ all_read base text
+    read_as held h = rw (sym count_all, h ∙ ap held_value value_all ∙ held_capped (value_of base (digits_of base text))) refl
 
   pub none-not : count < length text → is_digit base (get_or text count 0) ≡ false → digits_of base (drop count text) ≡ []
   unfolding digits_of

@@ -1,20 +1,20 @@
 -- A number and the text behind it, read in parts of a slice. Assumes nothing.
 use mathlib.Core.Path.{◌≡◌, refl, sym, ap, ◌∙◌}
-use mathlib.Core.Bool.{true, false}
+use mathlib.Core.Bool.{true, false, cond}
 use mathlib.Core.Logic.{◌⊎◌, inl, inr}
 use mathlib.Core.List.{List, [], ◌∷◌}
 use Prim.Native.Nat.{ℕ, ◌-◌, ◌≤◌, ◌<◌}
 use native.Mathlib.Omega.{arith}
-use borrow.Author.Tests.{leb-false, ltb-true, ltb-false}
+use borrow.Author.Tests.{le-ltb, leb-false, ltb-true, ltb-false}
 use borrow.Author.Rules.{part_to_end}
 use lib.Dec.{eqb, leb, ltb}
 use lib.ListN.{length, take, drop}
-use Rattle.std.specs.Prelude.{Option, Some, None, Ok, Err}
+use Rattle.std.specs.Prelude.{Some, None, Ok, Err}
 use Rattle.std.proofs.lemmas.Result.{IfOk-at_ok, IfErr-at_err}
 use Rattle.offset_lines.specs.declared.entry.Fault.{Fault}
-use Rattle.offset_lines.specs.declared.entry.Fault.TheVariants.{TooLarge}
-use Rattle.std.proofs.lemmas.Option.{none-some, same_Some}
-use Rattle.offset_lines.specs.Lines.{is_digit, digits_of, after_digits, value_of, starts_with, held_value, offset_of, said_of}
+use Rattle.offset_lines.specs.declared.entry.Fault.TheVariants.{NotANumber, TooLarge}
+use Rattle.offset_lines.specs.Lines.{is_digit, digits_of, after_digits, value_of, starts_with, held_value, offset_of, number_of, said_of}
+use Rattle.offset_lines.specs.Held.{held_offset, held_number, held_said}
 use Rattle.offset_lines.specs.declared.scans.Digits.{Digits}
 use Rattle.offset_lines.proofs.Texts.{yes_no}
 use Rattle.offset_lines.proofs.DigitLaws.{all_read}
@@ -57,21 +57,13 @@ after_is base (b ∷ text) = go (yes_no (is_digit base b)) (after_is base text)
 -- ---- a held value tells as much as the value
 
 -- an offset is below 65,536
-pub held_below : (v x : ℕ) → Some x ≡ held_value v → v ≡ x
-unfolding held_value
-held_below v x e = go (yes_no (leb v 65536))
+pub held_is : (v : ℕ) → held_offset (held_value v) ≡ offset_of v
+unfolding held_offset held_value offset_of
+held_is v = go (yes_no (leb v 65536))
   where
-    go : (leb v 65536 ≡ true) ⊎ (leb v 65536 ≡ false) → v ≡ x
-    go (inl h) = same_Some _ _ (sym (rw h at e))
-    go (inr h) = absurd (none-some x (sym (rw h at e)))
-
-pub held_none : (v : ℕ) → None ≡ held_value v → 65536 < v
-unfolding held_value
-held_none v e = go (yes_no (leb v 65536))
-  where
-    go : (leb v 65536 ≡ true) ⊎ (leb v 65536 ≡ false) → 65536 < v
-    go (inl h) = absurd (none-some v (rw h at e))
-    go (inr h) = leb-false v 65536 h
+    go : (leb v 65536 ≡ true) ⊎ (leb v 65536 ≡ false) → held_offset (cond (leb v 65536) (Some v) None) ≡ cond (ltb v 65536) (Ok v) (Err TooLarge)
+    go (inl h) = rw h refl
+    go (inr h) = rw (h, le-ltb v 65536 (let l = leb-false v 65536 h in omega arith)) refl
 
 -- an offset that is read is the value, and a value that is none is too large
 pub offset_read : (v x : ℕ) → offset_of v ≡ Ok x → (v < 65536) × (v ≡ x)
@@ -99,14 +91,17 @@ module _ (base : ℕ) (text : List ℕ) (d : Digits) (r : d ≡ all_read base te
   pub rest_is : from d.count text ≡ after_digits base text
   rest_is = part_to_end text d.count ∙ ap (λ (x : Digits). drop x.count text) r ∙ after_is base text
 
-  -- what is known of the count and of the value holds of the digits
-  module _ {A : Type 0} (x : A) (f : ℕ → ℕ → A) (h : (v : ℕ) → d.value ≡ held_value v → x ≡ f d.count v) where
-    pub told_is : x ≡ f (length (digits_of base text)) (value_of base (digits_of base text))
-    told_is = h _ (ap (λ (x : Digits). x.value) r) ∙ ap (λ (x : Digits). f x.count (value_of base (digits_of base text))) r
+  -- what is told of the held value is told of the digits
+  pub number_is : held_number d.count d.value ≡ number_of (length (digits_of base text)) (value_of base (digits_of base text))
+  unfolding held_number number_of
+  number_is =
+      ap (λ (x : Digits). held_number x.count x.value) r
+      ∙ ap (cond (eqb (length (digits_of base text)) 0) (Err NotANumber)) (held_is (value_of base (digits_of base text)))
 
-pub said_is : (one many : List ℕ) (base : ℕ) (text : List ℕ) (d : Digits) → d ≡ all_read base text → (x : Option ℕ)
-    → ((v : ℕ) → d.value ≡ held_value v → x ≡ said_of one many d.count v (from d.count text))
-    → x ≡ said_of one many (length (digits_of base text)) (value_of base (digits_of base text)) (after_digits base text)
-said_is one many base text d r x h =
-    told_is base text d r x (λ n v. said_of one many n v (from d.count text)) h
-    ∙ ap (said_of one many (length (digits_of base text)) (value_of base (digits_of base text))) (rest_is base text d r)
+module _ (one many : List ℕ) (base : ℕ) (text : List ℕ) (d : Digits) (r : d ≡ all_read base text) where
+  pub said_is : held_said one many d.count d.value (from d.count text)
+      ≡ said_of one many (length (digits_of base text)) (value_of base (digits_of base text)) (after_digits base text)
+  unfolding held_said said_of
+  said_is =
+      ap (λ (x : Digits). held_said one many x.count x.value (from d.count text)) r
+      ∙ ap (said_of one many (length (digits_of base text)) (value_of base (digits_of base text))) (rest_is base text d r)

@@ -1,11 +1,12 @@
-ghost use Rattle.std.specs.Prelude.{◌≡◌, ℕ};
-ghost use Rattle.offset_lines.specs.Lines.{held_value, said_of, said_number};
+ghost use Rattle.std.specs.Prelude.{◌≡◌};
+ghost use Rattle.offset_lines.specs.Lines.{said_number};
+ghost use Rattle.offset_lines.specs.Held.{held_said};
 
 use crate::scans::{Digits, is_text, read_digits, starts_with};
 
 // What such digits say in the last line of a list, before the word for one or for many.
 fn said_of(digits: Digits, one: &[u8], many: &[u8], word: &[u8]) -> Option<usize>
-    ensures { (v : ℕ) → digits.value ≡ held_value v → result ≡ said_of one.now many.now digits.count v word.now }
+    ensures { result ≡ held_said one.now many.now digits.count digits.value word.now }
 {
     if digits.count == 0 {
         return None;

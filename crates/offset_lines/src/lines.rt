@@ -1,6 +1,7 @@
 ghost use Rattle.std.specs.Prelude.{◌≡◌, ℕ, List, Result};
 ghost use Rattle.std.specs.Fn.{FnReturnsAt};
-ghost use Rattle.offset_lines.specs.Lines.{held_value, offset_of, number_of, number_text, offset_text, complete_text, text_of, line_by, line_of};
+ghost use Rattle.offset_lines.specs.Lines.{number_text, offset_text, complete_text, text_of, line_by, line_of};
+ghost use Rattle.offset_lines.specs.Held.{held_offset, held_number};
 ghost use Rattle.offset_lines.specs.declared.entry.Fault.{Fault as FaultOf};
 
 use crate::entry::{Entry, Fault};
@@ -11,7 +12,7 @@ use crate::scans::{
 
 // A value as an offset: below 65,536.
 pub fn offset_of(value: Option<usize>) -> Result<usize, Fault>
-    ensures { (v : ℕ) → value ≡ held_value v → result ≡ offset_of v }
+    ensures { result ≡ held_offset value }
 {
     match value {
         Some(value) if value < 65536 => Ok(value),
@@ -21,7 +22,7 @@ pub fn offset_of(value: Option<usize>) -> Result<usize, Fault>
 
 // The offset of such digits.
 fn number_of(digits: Digits) -> Result<usize, Fault>
-    ensures { (v : ℕ) → digits.value ≡ held_value v → result ≡ number_of digits.count v }
+    ensures { result ≡ held_number digits.count digits.value }
 {
     if digits.count == 0 {
         Err(Fault::NotANumber)

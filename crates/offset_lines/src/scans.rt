@@ -1,4 +1,4 @@
-ghost use Rattle.std.specs.Prelude.{Some, None, cond, ◌≡◌, ℕ, min, length};
+ghost use Rattle.std.specs.Prelude.{Some, None, cond, ◌≡◌, ◌+◌, length};
 ghost use Rattle.std.specs.List.{take_while};
 ghost use Rattle.offset_lines.specs.Lines.{is_blank, is_digit, digit_value, drop_blanks, digits_of, value_of, starts_with, is_text, is_void, without_return, has_return, held_value};
 
@@ -11,7 +11,8 @@ pub struct Digits {
 
 // A line without the carriage return that ends it.
 pub(crate) fn without_return(line: &[u8]) -> &[u8]
-    ensures { result.now ≡ without_return line.now }
+    ensures bytes { result.now ≡ without_return line.now }
+    ensures start { result.ref_ptr ≡ line.entry.ref_ptr }
 {
     match line {
         [rest @ .., b'\r'] => rest,
@@ -42,7 +43,8 @@ fn blanks(text: &[u8]) -> usize
 
 // A text from its first byte that is not blank.
 pub fn skip_blanks(text: &[u8]) -> &[u8]
-    ensures { result.now ≡ drop_blanks text.now }
+    ensures bytes { result.now ≡ drop_blanks text.now }
+    ensures start { result.ref_ptr ≡ (text.entry.ref_ptr.0, text.entry.ref_ptr.1 + length (take_while is_blank text.now)) }
 {
     &text[blanks(text)..]
 }
@@ -61,7 +63,7 @@ fn digit(byte: u8, base: u8) -> Option<u8>
 
 // A value up to 65,536. From 65,537 up each is as good as that.
 fn held_value(value: usize) -> Option<usize>
-    ensures { (v : ℕ) → value ≡ min 65537 v → result ≡ held_value v }
+    ensures { result ≡ held_value value }
 {
     (value <= 65536).then_some(value)
 }

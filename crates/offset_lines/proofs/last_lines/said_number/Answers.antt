@@ -31,4 +31,4 @@ returns c =
     let a = c.args in
     let r = c.read_digits-digits.ensures in
     let said : List ℕ → Option ℕ = λ text. said_of a.one.now a.many.now (length (digits_of 10 text)) (value_of 10 (digits_of 10 text)) (after_digits 10 text) in
-    simp (sym c.starts_with.ensures ∙ c.if-not-starts_with.false) (said_is a.one.now a.many.now _ _ _ r _ c.said_of.ensures ∙ ap said (part_to_end a.rest.now 1))
+    simp (sym c.starts_with.ensures ∙ c.if-not-starts_with.false) (c.said_of.ensures ∙ said_is a.one.now a.many.now _ _ _ r ∙ ap said (part_to_end a.rest.now 1))

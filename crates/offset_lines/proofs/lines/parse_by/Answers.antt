@@ -10,12 +10,12 @@ returns-then-line-gt2048 g c = λ item of. simp (lt-ltb 2048 _ c.if-line-gt2048.
 pub returns-then-has_return : goal.returns-then-has_return
 unfolding line_by
 returns-then-has_return g c = λ item of.
-    let text = c.without_return-text.ensures in
+    let text = c.without_return-text.ensures.bytes in
     simp (le-ltb 2048 _ c.if-line-gt2048.false, sym (ap has_return text) ∙ sym c.has_return.ensures ∙ c.if-has_return.true)
 
 pub returns : goal.returns
 unfolding line_by
 returns g c = λ item of.
-    let text = c.without_return-text.ensures in
+    let text = c.without_return-text.ensures.bytes in
     simp (le-ltb 2048 _ c.if-line-gt2048.false, sym (ap has_return text) ∙ sym c.has_return.ensures ∙ c.if-has_return.false)
-    (c.text_of.ensures item of ∙ ap (text_of _ _ item) (c.skip_blanks.ensures ∙ ap drop_blanks text))
+    (c.text_of.ensures item of ∙ ap (text_of _ _ item) (c.skip_blanks.ensures.bytes ∙ ap drop_blanks text))
