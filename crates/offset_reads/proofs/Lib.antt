@@ -1,3 +1,2 @@
-pub mod CutLaws
 pub mod StartLaws
 pub mod TextLaws

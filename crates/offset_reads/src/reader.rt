@@ -2,10 +2,10 @@ ghost use Rattle.std.specs.Prelude.{◌≡◌, length};
 ghost use Rattle.offset_files.specs.Files.{File as FileOf, no_text};
 ghost use Rattle.offset_reads.specs.Readers.{Kept, kept, step, HoldsReader, Ended, HoldsText};
 
-use crate::lines::take_line;
+use crate::lines::take_body;
 use byte_texts::Text;
 use offset_files::Reading;
-use text_lines::{LineReader, OpenLine, Tally, TextReader};
+use text_lines::{LineReader, OpenLine, Tally, TextReader, body_of};
 
 // A reader of a text of offsets, over lent buffers. `name` is the file's name as it is shown.
 #[derive(Drop)]
@@ -48,11 +48,13 @@ impl<'a> OffsetReader<'a> {
 impl<'a> LineReader for OffsetReader<'a> {
     ghost Ended = { Ended };
 
+    // Of the line there are the first 2,052 bytes.
     fn take_line(&mut self, line: &[u8]) {
-        self.reading = take_line(
+        let body = body_of(self.reading.tally.lines, line);
+        self.reading = take_body(
             self.reading,
             self.name,
-            line,
+            body,
             self.words,
             self.table,
             &mut self.report,

@@ -79,6 +79,18 @@ module _ {E : Type 0} (entry_of : List ℕ → E) (cut : (n : ℕ) (line : List 
   pub held_decides : (full : List ℕ) {held : List ℕ} → held ≡ take 2052 full → Decides entry_of held full
   held_decides full c = rw c (cut_decides 2052 full (lit≤ tt))
 
+  -- and so is what is held of it without a mark
+  held_body : (t u : Bool) (full : List ℕ)
+      → Decides entry_of (cond t (cond u (drop 3 (take 2052 full)) (take 2052 full)) (take 2052 full)) (cond t (cond u (drop 3 full) full) full)
+  held_body true true full = subst (λ (xs : List ℕ). Decides entry_of xs (drop 3 full)) (sym (body_cut full)) (cut_decides 2049 (drop 3 full) (lit≤ tt))
+  held_body true false full = cut_decides 2052 full (lit≤ tt)
+  held_body false u full = cut_decides 2052 full (lit≤ tt)
+
+  pub body_held : (lines : ℕ) (full : List ℕ) {n : ℕ} {held body : List ℕ} → n ≡ lines → held ≡ take 2052 full → body ≡ body_of n held
+      → Decides entry_of body (body_of lines full)
+  unfolding body_of
+  body_held lines full e c b = rw (b, e, c, mark_cut full) (held_body (eqb lines 0) (starts_with mark full) full)
+
   -- behind a mark
   pub body_decides : (full : List ℕ) {held : List ℕ} → held ≡ take 2052 full → Decides entry_of (take (length held - 3) (drop 3 held)) (drop 3 full)
   body_decides full {held} c =

@@ -10,7 +10,7 @@ mod tally;
 mod text_reader;
 mod wrong_counts;
 
-pub use bytes::starts_with_mark;
+pub use bytes::{body_of, starts_with_mark};
 pub use messages::{append_bad, append_place};
 pub use numbers::more;
 pub use open_line::OpenLine;
