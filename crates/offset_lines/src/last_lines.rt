@@ -5,6 +5,7 @@ ghost use Rattle.offset_lines.specs.Held.{held_said};
 use crate::scans::{Digits, is_text, read_digits, starts_with};
 
 // What such digits say in the last line of a list, before the word for one or for many.
+#[tactic(auto, unfolding(crate::specs::Held::held_said))]
 fn said_of(digits: Digits, one: &[u8], many: &[u8], word: &[u8]) -> Option<usize>
     ensures { result ≡ held_said one.now many.now digits.count digits.value word.now }
 {

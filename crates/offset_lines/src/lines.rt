@@ -11,6 +11,7 @@ use crate::scans::{
 };
 
 // A value as an offset: below 65,536.
+#[tactic(auto, unfolding(crate::specs::Held::held_offset, crate::specs::Lines::offset_of))]
 pub fn offset_of(value: Option<usize>) -> Result<usize, Fault>
     ensures { result ≡ held_offset value }
 {
@@ -21,6 +22,7 @@ pub fn offset_of(value: Option<usize>) -> Result<usize, Fault>
 }
 
 // The offset of such digits.
+#[tactic(auto, unfolding(crate::specs::Held::held_number))]
 fn number_of(digits: Digits) -> Result<usize, Fault>
     ensures { result ≡ held_number digits.count digits.value }
 {
@@ -55,6 +57,7 @@ fn offset_text(text: &[u8]) -> Result<usize, Fault>
 }
 
 // What stands behind `# complete:`.
+#[tactic(auto, unfolding(crate::specs::Lines::complete_text))]
 fn complete_text<T>(rest: &[u8], one: &[u8], many: &[u8]) -> Result<Entry<T>, Fault>
     ensures { result ≡ complete_text one.now many.now rest.now }
 {
@@ -86,6 +89,7 @@ fn text_of<T, F: Fn(&[u8]) -> Result<T, Fault>>(
 }
 
 // What a line is, from its bytes without the line feed. `item` reads what a line names, and `one` and `many` are the words for that in the last line of a list.
+#[tactic(auto, unfolding(crate::specs::Lines::line_by))]
 pub fn parse_by<T, F: Fn(&[u8]) -> Result<T, Fault>>(
     line: &[u8],
     one: &[u8],

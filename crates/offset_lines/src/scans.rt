@@ -10,6 +10,7 @@ pub struct Digits {
 }
 
 // A line without the carriage return that ends it.
+#[tactic(auto, using(crate::proofs::Texts::end_empty, crate::proofs::Texts::end_return, crate::proofs::Texts::end_other))]
 pub(crate) fn without_return(line: &[u8]) -> &[u8]
     ensures bytes { result.now ≡ without_return line.now }
     ensures start { result.ref_ptr ≡ line.entry.ref_ptr }
@@ -28,6 +29,7 @@ pub(crate) fn has_return(text: &[u8]) -> bool
 }
 
 // A space or a tab.
+#[tactic(auto, unfolding(crate::specs::Lines::is_blank))]
 fn is_blank(byte: u8) -> bool
     ensures { result ≡ is_blank byte }
 {
@@ -50,6 +52,7 @@ pub fn skip_blanks(text: &[u8]) -> &[u8]
 }
 
 // The value of a digit.
+#[tactic(auto, unfolding(crate::specs::Lines::is_digit, crate::specs::Lines::digit_value))]
 fn digit(byte: u8, base: u8) -> Option<u8>
     ensures { result ≡ cond (is_digit base byte) (Some (digit_value byte)) None }
 {
@@ -62,6 +65,7 @@ fn digit(byte: u8, base: u8) -> Option<u8>
 }
 
 // A value up to 65,536. From 65,537 up each is as good as that.
+#[tactic(auto, using(crate::proofs::DigitLaws::some_held))]
 fn held_value(value: usize) -> Option<usize>
     ensures { result ≡ held_value value }
 {
@@ -88,6 +92,7 @@ pub fn read_digits(text: &[u8], base: u8) -> Digits
 }
 
 // Whether a text starts with these bytes.
+#[tactic(auto, using(crate::proofs::Texts::starts_as))]
 pub fn starts_with(these: &[u8], text: &[u8]) -> bool
     ensures { result ≡ starts_with these.now text.now }
 {
@@ -95,6 +100,7 @@ pub fn starts_with(these: &[u8], text: &[u8]) -> bool
 }
 
 // Whether a text is these bytes.
+#[tactic(auto, using(crate::proofs::Texts::text_as))]
 pub(crate) fn is_text(these: &[u8], text: &[u8]) -> bool
     ensures { result ≡ is_text these.now text.now }
 {
@@ -102,6 +108,7 @@ pub(crate) fn is_text(these: &[u8], text: &[u8]) -> bool
 }
 
 // Whether nothing is there, or a comment.
+#[tactic(auto, using(crate::proofs::Texts::void_empty, crate::proofs::Texts::void_first))]
 pub fn is_void(text: &[u8]) -> bool
     ensures { result ≡ is_void text.now }
 {

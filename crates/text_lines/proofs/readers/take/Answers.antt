@@ -1,8 +1,3 @@
-use mathlib.Core.Path.{subst}
-use mathlib.Core.List.{List}
-use Prim.Native.Nat.{ℕ}
-use lib.Seq.{take_all}
-use Rattle.text_lines.specs.Readers.{ReadTo}
 use Rattle.text_lines.proofs.ReaderLaws.{read_start, read_line, read_byte}
 use Rattle.text_lines.proofs.readers.take.Goals as goal
 use Rattle.text_lines.proofs.readers.take.Goals.{then-byte-eq10, else-byte-eq10}
@@ -18,8 +13,3 @@ loop-byte-preserved g c = λ rest h.
       | then-byte-eq10 w ↦ rw (w.reader-is, w.line-is) (read_line piece i c.loop-byte-test.true w.if-byte-eq10.true w.held.ensures.held w.take_line.ensures w.clear.ensures.holds)
       | else-byte-eq10 w ↦ rw (w.reader-is, w.line-is) (read_byte piece i c.loop-byte-test.true w.if-byte-eq10.false w.push.ensures.holds)
     ]
-
-pub returns : goal.returns
-returns g c = λ rest h.
-    subst (λ (bytes : List ℕ). ReadTo g.R.LineReader.Ended c.args.reader.now rest bytes c.loop-byte.reader c.loop-byte.line)
-    (take_all c.loop-byte.byte-index c.args.piece.now c.loop-byte-test.false) (c.loop-byte.invariant rest h)
