@@ -1,17 +1,15 @@
 -- A number and the text behind it, read in parts of a slice. Assumes nothing.
-use mathlib.Core.Path.{◌≡◌, refl, sym, ap, ◌∙◌}
+use mathlib.Core.Path.{◌≡◌, refl, ap, ◌∙◌}
 use mathlib.Core.Bool.{true, false, cond}
 use mathlib.Core.Logic.{◌⊎◌, inl, inr}
 use mathlib.Core.List.{List, [], ◌∷◌}
-use Prim.Native.Nat.{ℕ, ◌-◌, ◌≤◌, ◌<◌}
+use Prim.Native.Nat.{ℕ, ◌-◌, ◌≤◌}
 use native.Mathlib.Omega.{arith}
-use borrow.Author.Tests.{le-ltb, leb-false, ltb-true, ltb-false}
+use borrow.Author.Tests.{le-ltb, leb-false}
 use borrow.Author.Rules.{part_to_end}
 use lib.Dec.{eqb, leb, ltb}
 use lib.ListN.{length, take, drop}
 use Rattle.std.specs.Prelude.{Some, None, Ok, Err}
-use Rattle.std.proofs.lemmas.Result.{IfOk-at_ok, IfErr-at_err}
-use Rattle.offset_lines.specs.declared.entry.Fault.{Fault}
 use Rattle.offset_lines.specs.declared.entry.Fault.TheVariants.{NotANumber, TooLarge}
 use Rattle.offset_lines.specs.Lines.{is_digit, digits_of, after_digits, value_of, starts_with, held_value, offset_of, number_of, said_of}
 use Rattle.offset_lines.specs.Held.{held_offset, held_number, held_said}
@@ -64,23 +62,6 @@ held_is v = go (yes_no (leb v 65536))
     go : (leb v 65536 ≡ true) ⊎ (leb v 65536 ≡ false) → held_offset (cond (leb v 65536) (Some v) None) ≡ cond (ltb v 65536) (Ok v) (Err TooLarge)
     go (inl h) = rw h refl
     go (inr h) = rw (h, le-ltb v 65536 (let l = leb-false v 65536 h in omega arith)) refl
-
--- an offset that is read is the value, and a value that is none is too large
-pub offset_read : (v x : ℕ) → offset_of v ≡ Ok x → (v < 65536) × (v ≡ x)
-unfolding offset_of
-offset_read v x e = go (yes_no (ltb v 65536))
-  where
-    go : (ltb v 65536 ≡ true) ⊎ (ltb v 65536 ≡ false) → (v < 65536) × (v ≡ x)
-    go (inl h) = (ltb-true v 65536 h, IfOk-at_ok (λ (y : ℕ). v ≡ y) (rw h at e) refl)
-    go (inr h) = absurd (IfOk-at_ok (λ (y : ℕ). ⊥) (rw h at e) tt)
-
-pub offset_fault : (v : ℕ) (e : Fault) → offset_of v ≡ Err e → (65536 ≤ v) × (e ≡ TooLarge)
-unfolding offset_of
-offset_fault v e f = go (yes_no (ltb v 65536))
-  where
-    go : (ltb v 65536 ≡ true) ⊎ (ltb v 65536 ≡ false) → (65536 ≤ v) × (e ≡ TooLarge)
-    go (inl h) = absurd (IfOk-at_ok (λ (y : ℕ). ⊥) (sym (rw h at f)) tt)
-    go (inr h) = (ltb-false v 65536 h, IfErr-at_err (λ (d : Fault). d ≡ TooLarge) (rw h at f) refl)
 
 -- ---- a number at the start of a text, with what stands behind it
 

@@ -1,13 +1,13 @@
 -- The first 2,052 bytes of a line decide what it is, and are shown as it is. Assumes nothing.
-use mathlib.Core.Path.{◌≡◌, refl, sym, ap, subst, ◌∙◌}
-use mathlib.Core.Bool.{Bool, true, false, cond, ◌&&◌}
+use mathlib.Core.Path.{◌≡◌, refl, sym, ap, subst}
+use mathlib.Core.Bool.{Bool, true, false, cond}
 use mathlib.Core.List.{List, [], ◌∷◌}
 use mathlib.Core.Logic.{◌⊎◌, inl, inr}
-use Prim.Native.Nat.{ℕ, ◌-◌, ◌≤◌, ◌<◌}
+use Prim.Native.Nat.{ℕ, ◌≤◌, ◌<◌}
 use native.Mathlib.Omega.{arith}
-use borrow.Author.Tests.{lt-leb, eq-eqb, eqb-true}
+use borrow.Author.Tests.{lt-leb}
 use lib.Dec.{eqb, lit≤}
-use lib.ListN.{length, take, drop, length-take, length-drop}
+use lib.ListN.{length, take, drop, length-take}
 use lib.Seq.{take_all, take-take}
 use Rattle.word_bits.proofs.Order.{lt-or-le}
 use Rattle.byte_texts.specs.Texts.{shown_text}
@@ -28,22 +28,6 @@ shown_cut n line h = go (lt-or-le 40 (length line))
 abbrev pub mark : List ℕ
 mark = 239 ∷ 187 ∷ 191 ∷ []
 
-mark_short : (line : List ℕ) → length line < 3 → false ≡ starts_with mark line
-unfolding starts_with
-mark_short [] h = refl
-mark_short (a ∷ []) h = either (eqb 239 a)
-  where
-    either : (t : Bool) → false ≡ (t && false)
-    either true = refl
-    either false = refl
-mark_short (a ∷ b ∷ []) h = either (eqb 239 a) (eqb 187 b)
-  where
-    either : (t u : Bool) → false ≡ (t && (u && false))
-    either true true = refl
-    either true false = refl
-    either false u = refl
-mark_short (a ∷ b ∷ c ∷ rest) h = absurd (omega arith)
-
 mark_cut : (line : List ℕ) → starts_with mark (take 2052 line) ≡ starts_with mark line
 unfolding starts_with
 mark_cut [] = refl
@@ -58,13 +42,6 @@ body_cut (a ∷ []) = refl
 body_cut (a ∷ b ∷ []) = refl
 body_cut (a ∷ b ∷ c ∷ rest) = refl
 
-pub mark_long : (line : List ℕ) → starts_with mark line ≡ true → 3 ≤ length line
-mark_long line e = go (lt-or-le (length line) 3)
-  where
-    go : (length line < 3) ⊎ (3 ≤ length line) → 3 ≤ length line
-    go (inl l) = let z : false ≡ true = mark_short line l ∙ e in let q : ◌≡◌ {A = ℕ} 0 1 = cc in absurd (omega arith)
-    go (inr g) = g
-
 -- ---- what a line is
 
 -- what is held of a line, and shown, is that of the whole line
@@ -76,10 +53,7 @@ module _ {E : Type 0} (entry_of : List ℕ → E) (cut : (n : ℕ) (line : List 
   cut_decides : (n : ℕ) (line : List ℕ) → 2049 ≤ n → Decides entry_of (take n line) line
   cut_decides n line h = record { is = cut n line h; shown = shown_cut n line (omega arith) }
 
-  pub held_decides : (full : List ℕ) {held : List ℕ} → held ≡ take 2052 full → Decides entry_of held full
-  held_decides full c = rw c (cut_decides 2052 full (lit≤ tt))
-
-  -- and so is what is held of it without a mark
+  -- and so is what is held without a mark
   held_body : (t u : Bool) (full : List ℕ)
       → Decides entry_of (cond t (cond u (drop 3 (take 2052 full)) (take 2052 full)) (take 2052 full)) (cond t (cond u (drop 3 full) full) full)
   held_body true true full = subst (λ (xs : List ℕ). Decides entry_of xs (drop 3 full)) (sym (body_cut full)) (cut_decides 2049 (drop 3 full) (lit≤ tt))
@@ -90,27 +64,3 @@ module _ {E : Type 0} (entry_of : List ℕ → E) (cut : (n : ℕ) (line : List 
       → Decides entry_of body (body_of lines full)
   unfolding body_of
   body_held lines full e c b = rw (b, e, c, mark_cut full) (held_body (eqb lines 0) (starts_with mark full) full)
-
-  -- behind a mark
-  pub body_decides : (full : List ℕ) {held : List ℕ} → held ≡ take 2052 full → Decides entry_of (take (length held - 3) (drop 3 held)) (drop 3 full)
-  body_decides full {held} c =
-      subst (λ (xs : List ℕ). Decides entry_of xs (drop 3 full))
-      (sym (take_all (length held - 3) (drop 3 held) (rw length-drop (omega arith)) ∙ ap (drop 3) c ∙ body_cut full))
-      (cut_decides 2049 (drop 3 full) (lit≤ tt))
-
--- ---- a line without its mark
-
-module _ (lines : ℕ) (full : List ℕ) {held : List ℕ} (c : held ≡ take 2052 full) where
-  pub marked_body : lines ≡ 0 → starts_with mark held ≡ true → body_of lines full ≡ drop 3 full
-  unfolding body_of
-  marked_body z m = rw (eq-eqb lines 0 z, sym (mark_cut full) ∙ ap (starts_with mark) (sym c) ∙ m) refl
-
-  pub plain_body : (lines ≡ 0 → ⊥) ⊎ (starts_with mark held ≡ false) → body_of lines full ≡ full
-  unfolding body_of
-  plain_body w = go (eqb lines 0) refl w
-    where
-      go : (t : Bool) → eqb lines 0 ≡ t → (lines ≡ 0 → ⊥) ⊎ (starts_with mark held ≡ false)
-          → cond t (cond (starts_with mark full) (drop 3 full) full) full ≡ full
-      go true e (inl n) = absurd (n (eqb-true lines 0 e))
-      go true e (inr q) = rw (sym (mark_cut full) ∙ ap (starts_with mark) (sym c) ∙ q) refl
-      go false e w = refl

@@ -10,7 +10,7 @@ pub fn starts_with_mark(line: &[u8]) -> bool
 }
 
 // A line without the byte order mark that it starts with, where it is the first.
-#[tactic(auto, using(crate::proofs::BodyLaws::mark_long), unfolding(crate::specs::Texts::body_of))]
+#[tactic(auto, using(offset_lines::proofs::Parts::starts_within), unfolding(crate::specs::Texts::body_of))]
 pub fn body_of(lines: usize, line: &[u8]) -> &[u8]
     ensures bytes { result.now ≡ body_of lines line.now }
     ensures start { result.ref_ptr ≡ (line.entry.ref_ptr.0, line.entry.ref_ptr.1 + (length line.now - length result.now)) }
