@@ -76,6 +76,7 @@ impl<'a> TextReader for OffsetReader<'a> {
     ghost HoldsFile = { HoldsReader };
 
     fn take(&mut self, piece: &[u8]) {
+        // A copy of the line: the whole reader is lent to the call that takes it.
         let mut line = self.line;
         text_lines::take(self, &mut line, piece);
         self.line = line;
