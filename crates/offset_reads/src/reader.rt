@@ -26,7 +26,10 @@ impl<'a> OffsetReader<'a> {
         table: &'a mut [u64],
         report: &'a mut [u8],
     ) -> OffsetReader<'a>
-        ensures keeps { kept result ≡ record { name = name.entry.now; words = words.entry.ghost_name; table = table.entry.ghost_name; report = report.entry.ghost_name } }
+        ensures named { result.name.now ≡ name.entry.now }
+        ensures same_words { result.words.ghost_name ≡ words.entry.ghost_name }
+        ensures same_table { result.table.ghost_name ≡ table.entry.ghost_name }
+        ensures same_report { result.report.out.ghost_name ≡ report.entry.ghost_name }
         ensures held { length words.old ≡ 1024 → length table.old ≡ 65536 → HoldsText no_text result }
     {
         words.fill(0);
