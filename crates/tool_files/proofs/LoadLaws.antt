@@ -11,7 +11,19 @@ use Rattle.offset_files.specs.declared.reading.Reading.{Reading}
 use Rattle.pair_files.specs.Files as Pairs
 use Rattle.pair_files.specs.Holds.{HoldsPairs}
 use Rattle.text_lines.specs.declared.tally.Tally.{Tally}
-use Rattle.tool_files.specs.Loading.{Took, ReadSome, ReadWhole, Usable, UsablePairs}
+use Rattle.tool_files.specs.Loading.{ReadWhole, Usable, UsablePairs}
+
+-- `step` is what one line more makes of a file, and H t that the text t is held
+module _ {F : Type 0} (step : List ℕ → F → F) where
+  -- after a read: some bytes more of whatever text was held
+  pub record Took (H H₁ : Text F → Type 0) : Type 0 where
+    pub bytes : List ℕ
+    pub holds : (t : Text F) → H t → H₁ (take_bytes step t bytes)
+
+  -- from the start: a text so far
+  pub record ReadSome (none : Text F) (H : Text F → Type 0) : Type 0 where
+    pub text : List ℕ
+    pub holds : H (take_bytes step none text)
 
 module _ {F : Type 0} {step : List ℕ → F → F} {none : Text F} where
   -- nothing is read yet

@@ -6,18 +6,8 @@ use Rattle.offset_files.specs.Files.{file_of}
 use Rattle.offset_files.specs.Holds.{all_offsets}
 use Rattle.pair_files.specs.Files.{pair_file_of}
 
--- `step` is what one line more makes of a file, and H t that the text t is held
+-- `step` is what one line more makes of a file
 module _ {F : Type 0} (step : List ℕ → F → F) where
-  -- after a read: some bytes more of whatever text was held
-  pub record Took (H H₁ : Text F → Type 0) : Type 0 where
-    pub bytes : List ℕ
-    pub holds : (t : Text F) → H t → H₁ (take_bytes step t bytes)
-
-  -- from the start: a text so far
-  pub record ReadSome (none : Text F) (H : Text F → Type 0) : Type 0 where
-    pub text : List ℕ
-    pub holds : H (take_bytes step none text)
-
   -- after the last read: a whole text
   pub record ReadWhole (none : Text F) (H : F → Type 0) : Type 0 where
     pub text : List ℕ
