@@ -2,6 +2,7 @@
 use mathlib.Core.Path.{◌≡◌, sym, subst}
 use mathlib.Core.List.{List}
 use Prim.Native.Nat.{ℕ}
+use Rattle.byte_texts.specs.declared.texts.Text.{Text}
 use Rattle.text_lines.specs.Texts.{body_of}
 use Rattle.pair_lines.specs.Lines.{pair_line_of}
 use Rattle.std.specs.Prelude.{Result}
@@ -12,7 +13,7 @@ use Rattle.pair_files.specs.Files.{PairFile, entry_line, take_pair}
 use Rattle.pair_files.specs.Holds.{HoldsPairs}
 use Rattle.text_lines.specs.declared.tally.Tally.{Tally}
 
-module _ (name full : List ℕ) (size : ℕ) (f : PairFile) {s : Tally} {to from report : List ℕ} where
+module _ (name full : List ℕ) (size : ℕ) (f : PairFile) {s : Tally} {to from : List ℕ} {report : Text} where
   pub taken_as : (body : List ℕ) → body_of f.lines full ≡ body → HoldsPairs (entry_line name body size (pair_line_of body) f) s to from report
       → HoldsPairs (take_pair name size full f) s to from report
   unfolding take_pair

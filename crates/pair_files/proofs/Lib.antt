@@ -3,4 +3,3 @@ pub mod HoldsLaws
 pub mod MessageLaws
 pub mod CutLaws
 pub mod Examples
-pub mod ReadLaws

@@ -1,14 +1,15 @@
 -- The tables after an offset is named, and cleared. Assumes nothing.
 use mathlib.Core.Path.{◌≡◌, refl, sym, ap, ◌∙◌}
 use mathlib.Core.Bool.{Bool, true, false, cond}
-use mathlib.Core.List.{List}
+use mathlib.Core.List.{List, []}
 use Prim.Native.Nat.{ℕ, ◌<◌}
 use native.Mathlib.Omega.{arith}
 use borrow.Author.Tests.{eqb-true, eqb-false}
 use lib.Dec.{eqb}
-use lib.ListN.{length, get_or, replicate, set as set_at, length-set}
+use lib.ListN.{length, take, get_or, replicate, set as set_at, length-set}
 use lib.Seq.{get_or-set_same, get_or-set_other}
 use Rattle.std.proofs.lemmas.List.{length-replicate, get_or-replicate}
+use Rattle.byte_texts.specs.declared.texts.Text.{Text}
 use Rattle.pair_files.specs.Files.{no_pairs, with_word}
 use Rattle.pair_files.specs.Holds.{HoldsPairs}
 
@@ -40,11 +41,17 @@ pub zero_at : (words : List ℕ) {after : List ℕ} → after ≡ replicate (len
 zero_at words e k h = ap (λ (ws : List ℕ). get_or ws k 0) e ∙ get_or-replicate (length words) k 0 0 h
 
 -- the start of a text
-pub start_holds : (report to from : List ℕ) {to' from' : List ℕ} → length to ≡ 65536 → length from ≡ 65536
-    → to' ≡ replicate (length to) 0 → from' ≡ replicate (length from) 0
-    → HoldsPairs no_pairs (record { lines = 0; named = 0; said = false; bads = 0; report = 0 }) to' from' report
-start_holds report to from t u e f = record {
-  counts = record { lines = refl; named = refl; said = refl; bads = refl; report_end = omega arith; reported = refl };
+pub start_holds : (to from : List ℕ) {to' from' : List ℕ} {report : Text} → length to ≡ 65536 → length from ≡ 65536
+    → to' ≡ replicate (length to) 0 → from' ≡ replicate (length from) 0 → report.end ≡ 0
+    → HoldsPairs no_pairs (record { lines = 0; named = 0; said = false; bads = 0 }) to' from' report
+start_holds to from {report = report} t u e f n = record {
+  counts = record {
+    lines = refl;
+    named = refl;
+    said = refl;
+    bads = refl;
+    report = record { report_end = omega (arith, n); reported = ap (λ (k : ℕ). take k report.out.now) n ∙ sym (ap (λ (k : ℕ). take k []) n) };
+  };
   to_long = ap length e ∙ length-replicate (length to) 0 ∙ t;
   to-words = λ p h. zero_at to e p (omega (arith, t, h));
   from_long = ap length f ∙ length-replicate (length from) 0 ∙ u;

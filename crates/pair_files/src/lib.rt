@@ -3,9 +3,8 @@
 
 mod lines;
 mod messages;
+mod naming;
 mod pairs;
 mod reader;
-mod reads;
 
 pub use reader::PairReader;
-pub use reads::{finish, start, take};

@@ -5,6 +5,7 @@ ghost use Rattle.pair_files.specs.Files.{PairFile, entry_line, take_pair};
 ghost use Rattle.pair_files.specs.Holds.{HoldsPairs};
 
 use crate::pairs::pair_line;
+use byte_texts::Text;
 use offset_lines::{Entry, fault_text};
 use pair_lines::parse_pair;
 use text_lines::{Tally, starts_with_mark};
@@ -17,9 +18,10 @@ fn take_body(
     size: usize,
     to: &mut [u64],
     from: &mut [u64],
-    report: &mut [u8],
+    report: &mut Text,
 ) -> Tally
-    ensures { (f : PairFile) (full : List ℕ) → pair_line_of body.now ≡ pair_line_of full → shown_text body.now ≡ shown_text full
+    ensures same_buffer { report.new.out.ghost_name ≡ report.old.out.ghost_name }
+    ensures held { (f : PairFile) (full : List ℕ) → pair_line_of body.now ≡ pair_line_of full → shown_text body.now ≡ shown_text full
         → HoldsPairs f tally to.old from.old report.old
         → HoldsPairs (entry_line name.now full size (pair_line_of full) f) result to.new from.new report.new }
 {
@@ -39,9 +41,10 @@ pub(crate) fn take_line(
     size: usize,
     to: &mut [u64],
     from: &mut [u64],
-    report: &mut [u8],
+    report: &mut Text,
 ) -> Tally
-    ensures { (f : PairFile) (full : List ℕ) → line.now ≡ take 2052 full
+    ensures same_buffer { report.new.out.ghost_name ≡ report.old.out.ghost_name }
+    ensures held { (f : PairFile) (full : List ℕ) → line.now ≡ take 2052 full
         → HoldsPairs f tally to.old from.old report.old
         → HoldsPairs (take_pair name.now size full f) result to.new from.new report.new }
 {

@@ -3,6 +3,7 @@
 ghost use Rattle.byte_texts.specs.Growth.{Appended};
 ghost use Rattle.pair_files.specs.Messages.{named_text, beyond_text, named_fault, beyond_fault, faults_text};
 
+use crate::naming::Naming;
 use byte_texts::Text;
 use text_lines::append_place;
 
@@ -61,20 +62,13 @@ fn append_beyond_fault(report: &mut Text, name: &[u8], line: usize, offset: usiz
     }
 }
 
-// All faults of a pair.
-pub(crate) fn append_faults(
-    report: &mut Text,
-    name: &[u8],
-    line: usize,
-    size: usize,
-    old: usize,
-    new: usize,
-    was: u64,
-    came: u64,
-)
-    ensures { Appended report.old report.new (faults_text name.now line size old new was came) }
-{
-    append_named_fault(report, name, line, b": old offset ", old, was);
-    append_named_fault(report, name, line, b": new offset ", new, came);
-    append_beyond_fault(report, name, line, new, size);
+impl Naming {
+    // All faults of the pair.
+    pub(crate) fn append_faults(self, report: &mut Text, name: &[u8], line: usize, size: usize)
+        ensures { Appended report.old report.new (faults_text name.now line size self.pair.old self.pair.new self.was self.came) }
+    {
+        append_named_fault(report, name, line, b": old offset ", self.pair.old, self.was);
+        append_named_fault(report, name, line, b": new offset ", self.pair.new, self.came);
+        append_beyond_fault(report, name, line, self.pair.new, size);
+    }
 }

@@ -1,7 +1,10 @@
-ghost use Rattle.pair_files.specs.Readers.{Ended};
+ghost use Rattle.std.specs.Prelude.{◌≡◌, length};
+ghost use Rattle.pair_files.specs.Files.{PairFile, no_text};
+ghost use Rattle.pair_files.specs.Readers.{Lent, lent, step, Ended, HoldsReader, HoldsText};
 
 use crate::lines::take_line;
-use text_lines::{LineReader, Tally};
+use byte_texts::Text;
+use text_lines::{LineReader, OpenLine, Tally, TextReader};
 
 // A reader of a text of pairs, over lent buffers. `name` is the file's name as it is shown, and `size` the new length.
 #[derive(Drop)]
@@ -11,7 +14,38 @@ pub struct PairReader<'a> {
     pub tally: Tally,
     pub to: &'a mut [u64],
     pub from: &'a mut [u64],
-    pub report: &'a mut [u8],
+    pub report: Text<'a>,
+    pub line: OpenLine,
+}
+
+impl<'a> PairReader<'a> {
+    // Nothing is read. The tables are cleared.
+    pub fn new(
+        name: &'a [u8],
+        size: usize,
+        to: &'a mut [u64],
+        from: &'a mut [u64],
+        report: &'a mut [u8],
+    ) -> PairReader<'a>
+        ensures named { result.name.now ≡ name.now }
+        ensures sized { result.size ≡ size }
+        ensures same_to { result.to.ghost_name ≡ to.entry.ghost_name }
+        ensures same_from { result.from.ghost_name ≡ from.entry.ghost_name }
+        ensures same_report { result.report.out.ghost_name ≡ report.entry.ghost_name }
+        ensures held { length to.old ≡ 65536 → length from.old ≡ 65536 → HoldsText no_text result }
+    {
+        to.fill(0);
+        from.fill(0);
+        PairReader {
+            name,
+            size,
+            tally: Tally::new(),
+            to,
+            from,
+            report: Text::new(report),
+            line: OpenLine::new(),
+        }
+    }
 }
 
 impl<'a> LineReader for PairReader<'a> {
@@ -25,7 +59,32 @@ impl<'a> LineReader for PairReader<'a> {
             self.size,
             self.to,
             self.from,
-            self.report,
+            &mut self.report,
         );
+    }
+}
+
+impl<'a> TextReader for PairReader<'a> {
+    ghost Kept = { Lent };
+
+    ghost kept = { lent };
+
+    ghost File = { PairFile };
+
+    ghost step = { step };
+
+    ghost HoldsText = { HoldsText };
+
+    ghost HoldsFile = { HoldsReader };
+
+    fn take(&mut self, piece: &[u8]) {
+        let mut line = self.line;
+        text_lines::take(self, &mut line, piece);
+        self.line = line;
+    }
+
+    fn finish(&mut self) {
+        let line = self.line;
+        text_lines::finish(self, &line);
     }
 }

@@ -13,15 +13,15 @@ slice_bounds-take_body-count c = mark_long _ (sym c.starts_with_mark.ensures ∙
 pub slice_bounds-take_body-start : goal.slice_bounds-take_body-start
 slice_bounds-take_body-start c = mark_long _ (sym c.starts_with_mark.ensures ∙ c.if-starts_with_mark.true)
 
-pub returns-then-starts_with_mark : goal.returns-then-starts_with_mark
-returns-then-starts_with_mark c =
+pub returns-then-starts_with_mark-clause-held : goal.returns-then-starts_with_mark-clause-held
+returns-then-starts_with_mark-clause-held c =
     λ f full e h.
     let d = body_decides pair_line_of line_cut full e in
     taken_as _ full _ f _ (marked_body f.lines full e (sym h.counts.lines ∙ c.if-tally-eq0.true) (sym c.starts_with_mark.ensures ∙ c.if-starts_with_mark.true))
-    (c.take_body.ensures f _ d.is d.shown h)
+    (c.take_body.ensures.held f _ d.is d.shown h)
 
-pub returns : goal.returns
-returns c =
+pub returns-clause-held : goal.returns-clause-held
+returns-clause-held c =
     λ f full e h.
     let d = held_decides pair_line_of line_cut full e in
     taken_as _ full _ f full
@@ -30,4 +30,4 @@ returns c =
       | then-tally-eq0+else-starts_with_mark w ↦ inr (sym w.starts_with_mark.ensures ∙ w.if-starts_with_mark.false)
       | else-tally-eq0 w ↦ inl (λ z. w.if-tally-eq0.false (h.counts.lines ∙ z))
     ]))
-    (c.take_body-2.ensures f full d.is d.shown h)
+    (c.take_body-2.ensures.held f full d.is d.shown h)
