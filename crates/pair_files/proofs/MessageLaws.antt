@@ -1,15 +1,8 @@
--- A message in parts, and the reason of a wrong last line, which has at most 64 bytes. Assumes nothing.
-use mathlib.Core.Path.{◌≡◌, ap, ◌∙◌}
-use mathlib.Core.List.{List}
+-- The reason of a wrong last line has at most 64 bytes. Assumes nothing.
 use Prim.Native.Nat.{ℕ, ◌≤◌}
 use native.Mathlib.Omega.{arith}
-use lib.ListN.{length, take, length-append}
+use lib.ListN.{length, length-append}
 use Rattle.byte_texts.specs.Ascii.{ascii}
-use Rattle.byte_texts.specs.Texts.{Written, written}
-use Rattle.byte_texts.specs.Growth.{Appended}
-use Rattle.byte_texts.specs.declared.texts.Text.{Text}
-use Rattle.byte_texts.proofs.GrowthLaws.{appended_is}
-use Rattle.byte_texts.proofs.TextLaws.{written_inside, written-whole}
 use Rattle.text_lines.proofs.MessageLaws.{decimal_short}
 use Rattle.pair_files.specs.Messages.{wrong_count}
 

@@ -8,18 +8,18 @@ use Rattle.pair_files.specs.Holds.{HoldsPairs}
 use Rattle.pair_files.specs.declared.reader.PairReader.{PairReader}
 
 -- its name, its length and its buffers
-pub record Lent : Type 0 where
+pub record Kept : Type 0 where
   pub name : List ℕ
   pub size : ℕ
   pub to : GName
   pub from : GName
   pub report : GName
 
-abbrev pub lent : PairReader → Lent
-lent r = record { name = r.name.now; size = r.size; to = r.to.ghost_name; from = r.from.ghost_name; report = r.report.out.ghost_name }
+abbrev pub kept : PairReader → Kept
+kept r = record { name = r.name.now; size = r.size; to = r.to.ghost_name; from = r.from.ghost_name; report = r.report.out.ghost_name }
 
 -- what one line more makes of a file
-abbrev pub step : Lent → List ℕ → PairFile → PairFile
+abbrev pub step : Kept → List ℕ → PairFile → PairFile
 step k = take_pair k.name k.size
 
 abbrev pub HoldsReader : PairFile → PairReader → Type 0
@@ -27,7 +27,7 @@ HoldsReader f r = HoldsPairs f r.tally r.to.now r.from.now r.report
 
 -- it keeps these with an ended line, and holds the file with the line
 abbrev pub Ended : PairReader → List ℕ → PairReader → Type 0
-Ended = Keeps lent step HoldsReader
+Ended = Keeps kept step HoldsReader
 
 -- a text that is read so far: its lines, and the bytes of the line that is not ended
 abbrev pub HoldsText : PairText → PairReader → Type 0

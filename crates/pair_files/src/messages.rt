@@ -67,8 +67,22 @@ impl Naming {
     pub(crate) fn append_faults(self, report: &mut Text, name: &[u8], line: usize, size: usize)
         ensures { Appended report.old report.new (faults_text name.now line size self.pair.old self.pair.new self.was self.came) }
     {
-        append_named_fault(report, name, line, b": old offset ", self.pair.old, self.was);
-        append_named_fault(report, name, line, b": new offset ", self.pair.new, self.came);
+        append_named_fault(
+            report,
+            name,
+            line,
+            b": old offset ",
+            self.pair.old,
+            self.was,
+        );
+        append_named_fault(
+            report,
+            name,
+            line,
+            b": new offset ",
+            self.pair.new,
+            self.came,
+        );
         append_beyond_fault(report, name, line, self.pair.new, size);
     }
 }

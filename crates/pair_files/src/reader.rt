@@ -1,6 +1,6 @@
 ghost use Rattle.std.specs.Prelude.{◌≡◌, length};
 ghost use Rattle.pair_files.specs.Files.{PairFile, no_text};
-ghost use Rattle.pair_files.specs.Readers.{Lent, lent, step, Ended, HoldsReader, HoldsText};
+ghost use Rattle.pair_files.specs.Readers.{Kept, kept, step, HoldsReader, Ended, HoldsText};
 
 use crate::lines::take_line;
 use byte_texts::Text;
@@ -27,11 +27,7 @@ impl<'a> PairReader<'a> {
         from: &'a mut [u64],
         report: &'a mut [u8],
     ) -> PairReader<'a>
-        ensures named { result.name.now ≡ name.now }
-        ensures sized { result.size ≡ size }
-        ensures same_to { result.to.ghost_name ≡ to.entry.ghost_name }
-        ensures same_from { result.from.ghost_name ≡ from.entry.ghost_name }
-        ensures same_report { result.report.out.ghost_name ≡ report.entry.ghost_name }
+        ensures keeps { kept result ≡ record { name = name.entry.now; size = size; to = to.entry.ghost_name; from = from.entry.ghost_name; report = report.entry.ghost_name } }
         ensures held { length to.old ≡ 65536 → length from.old ≡ 65536 → HoldsText no_text result }
     {
         to.fill(0);
@@ -65,9 +61,9 @@ impl<'a> LineReader for PairReader<'a> {
 }
 
 impl<'a> TextReader for PairReader<'a> {
-    ghost Kept = { Lent };
+    ghost Kept = { Kept };
 
-    ghost kept = { lent };
+    ghost kept = { kept };
 
     ghost File = { PairFile };
 
