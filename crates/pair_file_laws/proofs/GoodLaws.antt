@@ -11,6 +11,7 @@ use Rattle.byte_texts.specs.Ascii.{ascii}
 use Rattle.edits.specs.Edits.{is_in}
 use Rattle.renumber_steps.specs.Pairs.{olds, news, repeats}
 use Rattle.renumber_steps.specs.declared.pair.Pair as Pairs
+use Rattle.byte_texts.specs.declared.texts.Text.{Text}
 use Rattle.text_lines.specs.Texts.{more, body_of}
 use Rattle.text_lines.specs.Messages.{bad_text}
 use Rattle.pair_lines.specs.Lines.{pair_line_of}
@@ -177,7 +178,7 @@ module _ (name : List ℕ) (size : ℕ) (text : List ℕ) (none : (pair_file_of 
   pairs-counted = (fair_file size name text).counted none
 
 -- the tables that are held are as good
-pub held_good : {f : PairFile} {r : Tally} {to from report : List ℕ} (size : ℕ) → HoldsPairs f r to from report → GoodPairs f.list f.to f.from size
+pub held_good : {f : PairFile} {r : Tally} {to from : List ℕ} {report : Text} (size : ℕ) → HoldsPairs f r to from report → GoodPairs f.list f.to f.from size
     → GoodPairs f.list (λ p. get_or to p 0) (λ q. get_or from q 0) size
 held_good size h g = record {
   olds-once = g.olds-once;

@@ -10,6 +10,7 @@ use lib.Dec.{eqb, ltb}
 use lib.ListN.{length, take, length-append}
 use lib.Seq.{take_all}
 use Rattle.byte_texts.specs.Ascii.{ascii}
+use Rattle.byte_texts.specs.declared.texts.Text.{Text}
 use Rattle.text_lines.specs.Texts.{more, body_of}
 use Rattle.text_lines.specs.Messages.{bad_text}
 use Rattle.text_lines.proofs.MessageLaws.{decimal_short}
@@ -150,11 +151,13 @@ module _ (name : List ℕ) where
         let m = mul-le-mul_right room n in
         omega (arith, h.fits)
 
-    module _ (text : List ℕ) {r : Tally} {to from report : List ℕ} (h : HoldsPairs (pair_file_of name size text) r to from report) where
+    module _ (text : List ℕ) {r : Tally} {to from : List ℕ} {report : Text} (h : HoldsPairs (pair_file_of name size text) r to from report) where
       -- a report that ends before its buffer is whole
-      pub held_report : r.report < length report → take r.report report ≡ (pair_file_of name size text).report
-      held_report l = h.counts.reported ∙ take_all r.report (pair_file_of name size text).report (omega (arith, h.counts.report_end))
+      pub held_report : report.end < length report.out.now → take report.end report.out.now ≡ (pair_file_of name size text).report
+      held_report l = h.counts.report.reported ∙ take_all report.end (pair_file_of name size text).report (omega (arith, h.counts.report.report_end))
 
       -- and so is any in a buffer of that room
-      pub held_room : 20 * room ≤ length report → take r.report report ≡ (pair_file_of name size text).report
-      held_room l = h.counts.reported ∙ take_all r.report (pair_file_of name size text).report (let n = report_room text in omega (arith, h.counts.report_end))
+      pub held_room : 20 * room ≤ length report.out.now → take report.end report.out.now ≡ (pair_file_of name size text).report
+      held_room l =
+          h.counts.report.reported
+          ∙ take_all report.end (pair_file_of name size text).report (let n = report_room text in omega (arith, h.counts.report.report_end))

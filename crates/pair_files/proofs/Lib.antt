@@ -1,5 +1,4 @@
 pub mod TableLaws
 pub mod HoldsLaws
 pub mod MessageLaws
-pub mod CutLaws
 pub mod Examples

@@ -1,17 +1,17 @@
-ghost use Rattle.std.specs.Prelude.{◌≡◌, List, ℕ, take};
+ghost use Rattle.std.specs.Prelude.{◌≡◌, List, ℕ};
 ghost use Rattle.byte_texts.specs.Texts.{shown_text};
 ghost use Rattle.pair_lines.specs.Lines.{pair_line_of};
-ghost use Rattle.pair_files.specs.Files.{PairFile, entry_line, take_pair};
+ghost use Rattle.pair_files.specs.Files.{PairFile, entry_line};
 ghost use Rattle.pair_files.specs.Holds.{HoldsPairs};
 
 use crate::pairs::pair_line;
 use byte_texts::Text;
 use offset_lines::{Entry, fault_text};
 use pair_lines::parse_pair;
-use text_lines::{Tally, starts_with_mark};
+use text_lines::Tally;
 
 // A line by what it is. `body` has as many bytes of it as decide that, and as are shown.
-fn take_body(
+pub(crate) fn take_body(
     tally: Tally,
     name: &[u8],
     body: &[u8],
@@ -31,27 +31,4 @@ fn take_body(
         Ok(Entry::Says(count)) => tally.said_line(name, body, count, b" pairs and names ", report),
         Err(fault) => tally.bad_line(name, body, fault_text(fault), report),
     }
-}
-
-// An ended line, of which `line` has the first 2,052 bytes. A byte order mark at the start of the first line is skipped.
-pub(crate) fn take_line(
-    tally: Tally,
-    name: &[u8],
-    line: &[u8],
-    size: usize,
-    to: &mut [u64],
-    from: &mut [u64],
-    report: &mut Text,
-) -> Tally
-    ensures same_buffer { report.new.out.ghost_name ≡ report.old.out.ghost_name }
-    ensures held { (f : PairFile) (full : List ℕ) → line.now ≡ take 2052 full
-        → HoldsPairs f tally to.old from.old report.old
-        → HoldsPairs (take_pair name.now size full f) result to.new from.new report.new }
-{
-    if tally.lines == 0 {
-        if starts_with_mark(line) {
-            return take_body(tally, name, &line[3..], size, to, from, report);
-        }
-    }
-    take_body(tally, name, line, size, to, from, report)
 }

@@ -2,9 +2,9 @@ ghost use Rattle.std.specs.Prelude.{◌≡◌, length};
 ghost use Rattle.pair_files.specs.Files.{PairFile, no_text};
 ghost use Rattle.pair_files.specs.Readers.{Kept, kept, step, HoldsReader, Ended, HoldsText};
 
-use crate::lines::take_line;
+use crate::lines::take_body;
 use byte_texts::Text;
-use text_lines::{LineReader, OpenLine, Tally, TextReader};
+use text_lines::{LineReader, OpenLine, Tally, TextReader, body_of};
 
 // A reader of a text of pairs, over lent buffers. `name` is the file's name as it is shown, and `size` the new length.
 #[derive(Drop)]
@@ -47,11 +47,13 @@ impl<'a> PairReader<'a> {
 impl<'a> LineReader for PairReader<'a> {
     ghost Ended = { Ended };
 
+    // Of the line there are the first 2,052 bytes.
     fn take_line(&mut self, line: &[u8]) {
-        self.tally = take_line(
+        let body = body_of(self.tally.lines, line);
+        self.tally = take_body(
             self.tally,
             self.name,
-            line,
+            body,
             self.size,
             self.to,
             self.from,

@@ -1,6 +1,6 @@
-ghost use Rattle.std.specs.Prelude.{◌≡◌, ℕ};
-ghost use Rattle.offset_lines.specs.Lines.{held_value};
-ghost use Rattle.pair_lines.specs.Lines.{pair_of, pair_text, pair_line_of};
+ghost use Rattle.std.specs.Prelude.{◌≡◌};
+ghost use Rattle.pair_lines.specs.Lines.{pair_text, pair_line_of};
+ghost use Rattle.pair_lines.specs.Held.{held_pair};
 
 use crate::numbers::read_number;
 use crate::pair::Pair;
@@ -8,7 +8,7 @@ use offset_lines::{Digits, Entry, Fault, is_void, offset_of, parse_by, skip_blan
 
 // The offsets of such digits.
 fn pair_of(first: Digits, second: Digits) -> Result<Pair, Fault>
-    ensures { (v w : ℕ) → first.value ≡ held_value v → second.value ≡ held_value w → result ≡ pair_of first.count v second.count w }
+    ensures { result ≡ held_pair first.count first.value second.count second.value }
 {
     if first.count == 0 {
         return Err(Fault::NotTwoNumbers);
