@@ -15,7 +15,7 @@ pub record Kept : Type 0 where
   pub report : GName
 
 abbrev pub kept : OffsetReader → Kept
-kept r = record { name = r.name.now; words = r.words.ghost_name; table = r.table.ghost_name; report = r.report.out.ghost_name }
+kept r = record { name = r.name.now; words = r.words.ghost_name; table = r.table.ghost_name; report = r.report.ghost_name }
 
 -- one line more of a file of that name
 abbrev pub step : Kept → List ℕ → File → File
@@ -23,7 +23,7 @@ step k = take_line k.name
 
 -- a file
 abbrev pub HoldsReader : File → OffsetReader → Type 0
-HoldsReader f r = HoldsFile f r.reading r.words.now r.table.now r.report
+HoldsReader f r = HoldsFile f r.reading r.words.now r.table.now r.report.now
 
 -- what an ended line makes of the reader
 abbrev pub Ended : OffsetReader → List ℕ → OffsetReader → Type 0

@@ -4,4 +4,4 @@
 mod lines;
 mod reader;
 
-pub use reader::OffsetReader;
+pub use reader::{OffsetReader, start};

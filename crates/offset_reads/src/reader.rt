@@ -1,5 +1,7 @@
 ghost use Rattle.std.specs.Prelude.{◌≡◌, length};
-ghost use Rattle.offset_files.specs.Files.{File as FileOf, no_text};
+ghost use Rattle.byte_texts.specs.declared.texts.Text.{Text as TextOf};
+ghost use Rattle.offset_files.specs.Files.{File as FileOf, no_lines};
+ghost use Rattle.offset_files.specs.Holds.{HoldsFile};
 ghost use Rattle.offset_reads.specs.Readers.{Kept, kept, step, HoldsReader, Ended, HoldsText};
 
 use crate::lines::take_body;
@@ -7,48 +9,31 @@ use byte_texts::Text;
 use offset_files::Reading;
 use text_lines::{LineReader, OpenLine, Tally, TextReader, body_of};
 
-// A reader of a text of offsets, over lent buffers. `name` is the file's name as it is shown.
+// A reader of a text of offsets, over lent buffers: it is made where they are lent, since a function that makes it leaves unknown what they are then.
+// `name` is the file's name as it is shown.
 #[derive(Drop)]
-pub struct OffsetReader<'a> {
+pub struct OffsetReader<'a, 'b> {
     pub name: &'a [u8],
     pub reading: Reading,
     pub words: &'a mut [u64],
     pub table: &'a mut [u64],
-    pub report: Text<'a>,
+    pub report: &'a mut Text<'b>,
     pub line: OpenLine,
 }
 
-impl<'a> OffsetReader<'a> {
-    // Nothing is read. The words and the table are cleared.
-    pub fn new(
-        name: &'a [u8],
-        words: &'a mut [u64],
-        table: &'a mut [u64],
-        report: &'a mut [u8],
-    ) -> OffsetReader<'a>
-        ensures named { result.name.now ≡ name.entry.now }
-        ensures same_words { result.words.ghost_name ≡ words.entry.ghost_name }
-        ensures same_table { result.table.ghost_name ≡ table.entry.ghost_name }
-        ensures same_report { result.report.out.ghost_name ≡ report.entry.ghost_name }
-        ensures held { length words.old ≡ 1024 → length table.old ≡ 65536 → HoldsText no_text result }
-    {
-        words.fill(0);
-        table.fill(0);
-        OffsetReader {
-            name,
-            reading: Reading {
-                tally: Tally::new(),
-                repeats: 0,
-            },
-            words,
-            table,
-            report: Text::new(report),
-            line: OpenLine::new(),
-        }
+// Nothing is read. The words and the table are cleared.
+pub fn start(words: &mut [u64], table: &mut [u64]) -> Reading
+    ensures { (report : TextOf) → report.end ≡ 0 → length words.old ≡ 1024 → length table.old ≡ 65536 → HoldsFile no_lines result words.new table.new report }
+{
+    words.fill(0);
+    table.fill(0);
+    Reading {
+        tally: Tally::new(),
+        repeats: 0,
     }
 }
 
-impl<'a> LineReader for OffsetReader<'a> {
+impl<'a, 'b> LineReader for OffsetReader<'a, 'b> {
     ghost Ended = { Ended };
 
     // Of the line there are the first 2,052 bytes.
@@ -60,12 +45,12 @@ impl<'a> LineReader for OffsetReader<'a> {
             body,
             self.words,
             self.table,
-            &mut self.report,
+            self.report,
         );
     }
 }
 
-impl<'a> TextReader for OffsetReader<'a> {
+impl<'a, 'b> TextReader for OffsetReader<'a, 'b> {
     ghost Kept = { Kept };
 
     ghost kept = { kept };

@@ -16,14 +16,14 @@ pub record Kept : Type 0 where
   pub report : GName
 
 abbrev pub kept : PairReader → Kept
-kept r = record { name = r.name.now; size = r.size; to = r.to.ghost_name; from = r.from.ghost_name; report = r.report.out.ghost_name }
+kept r = record { name = r.name.now; size = r.size; to = r.to.ghost_name; from = r.from.ghost_name; report = r.report.ghost_name }
 
 -- what one line more makes of a file
 abbrev pub step : Kept → List ℕ → PairFile → PairFile
 step k = take_pair k.name k.size
 
 abbrev pub HoldsReader : PairFile → PairReader → Type 0
-HoldsReader f r = HoldsPairs f r.tally r.to.now r.from.now r.report
+HoldsReader f r = HoldsPairs f r.tally r.to.now r.from.now r.report.now
 
 -- it keeps these with an ended line, and holds the file with the line
 abbrev pub Ended : PairReader → List ℕ → PairReader → Type 0

@@ -1,50 +1,36 @@
 ghost use Rattle.std.specs.Prelude.{◌≡◌, length};
-ghost use Rattle.pair_files.specs.Files.{PairFile, no_text};
+ghost use Rattle.byte_texts.specs.declared.texts.Text.{Text as TextOf};
+ghost use Rattle.pair_files.specs.Files.{PairFile, no_pairs};
+ghost use Rattle.pair_files.specs.Holds.{HoldsPairs};
 ghost use Rattle.pair_files.specs.Readers.{Kept, kept, step, HoldsReader, Ended, HoldsText};
 
 use crate::lines::take_body;
 use byte_texts::Text;
 use text_lines::{LineReader, OpenLine, Tally, TextReader, body_of};
 
-// A reader of a text of pairs, over lent buffers. `name` is the file's name as it is shown, and `size` the new length.
+// A reader of a text of pairs, over lent buffers: it is made where they are lent, since a function that makes it leaves unknown what they are then.
+// `name` is the file's name as it is shown, and `size` the new length.
 #[derive(Drop)]
-pub struct PairReader<'a> {
+pub struct PairReader<'a, 'b> {
     pub name: &'a [u8],
     pub size: usize,
     pub tally: Tally,
     pub to: &'a mut [u64],
     pub from: &'a mut [u64],
-    pub report: Text<'a>,
+    pub report: &'a mut Text<'b>,
     pub line: OpenLine,
 }
 
-impl<'a> PairReader<'a> {
-    // Nothing is read. The tables are cleared.
-    pub fn new(
-        name: &'a [u8],
-        size: usize,
-        to: &'a mut [u64],
-        from: &'a mut [u64],
-        report: &'a mut [u8],
-    ) -> PairReader<'a>
-        ensures keeps { kept result ≡ record { name = name.entry.now; size = size; to = to.entry.ghost_name; from = from.entry.ghost_name; report = report.entry.ghost_name } }
-        ensures held { length to.old ≡ 65536 → length from.old ≡ 65536 → HoldsText no_text result }
-    {
-        to.fill(0);
-        from.fill(0);
-        PairReader {
-            name,
-            size,
-            tally: Tally::new(),
-            to,
-            from,
-            report: Text::new(report),
-            line: OpenLine::new(),
-        }
-    }
+// Nothing is read. The tables are cleared.
+pub fn start(to: &mut [u64], from: &mut [u64]) -> Tally
+    ensures { (report : TextOf) → report.end ≡ 0 → length to.old ≡ 65536 → length from.old ≡ 65536 → HoldsPairs no_pairs result to.new from.new report }
+{
+    to.fill(0);
+    from.fill(0);
+    Tally::new()
 }
 
-impl<'a> LineReader for PairReader<'a> {
+impl<'a, 'b> LineReader for PairReader<'a, 'b> {
     ghost Ended = { Ended };
 
     // Of the line there are the first 2,052 bytes.
@@ -57,12 +43,12 @@ impl<'a> LineReader for PairReader<'a> {
             self.size,
             self.to,
             self.from,
-            &mut self.report,
+            self.report,
         );
     }
 }
 
-impl<'a> TextReader for PairReader<'a> {
+impl<'a, 'b> TextReader for PairReader<'a, 'b> {
     ghost Kept = { Kept };
 
     ghost kept = { kept };

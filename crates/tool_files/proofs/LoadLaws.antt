@@ -1,8 +1,8 @@
 -- A text that is read piece by piece, from its start to its end. Assumes nothing.
-use mathlib.Core.Path.{◌≡◌, sym, subst, ◌∙◌}
+use mathlib.Core.Path.{◌≡◌, refl, sym, subst, ◌∙◌}
 use mathlib.Core.List.{List, [], ◌++◌}
 use Prim.Native.Nat.{ℕ}
-use lib.ListN.{length}
+use Rattle.byte_texts.specs.declared.texts.Text.{Text as Report}
 use Rattle.text_lines.specs.Texts.{Text, take_bytes, at_end}
 use Rattle.text_lines.proofs.PieceLaws.{pieces}
 use Rattle.offset_files.specs.Files as Offsets
@@ -13,48 +13,48 @@ use Rattle.pair_files.specs.Holds.{HoldsPairs}
 use Rattle.text_lines.specs.declared.tally.Tally.{Tally}
 use Rattle.tool_files.specs.Loading.{ReadWhole, Usable, UsablePairs}
 
--- `step` is what one line more makes of a file, and H t that the text t is held
-module _ {F : Type 0} (step : List ℕ → F → F) where
-  -- after a read: some bytes more of whatever text was held
-  pub record Took (H H₁ : Text F → Type 0) : Type 0 where
-    pub bytes : List ℕ
-    pub holds : (t : Text F) → H t → H₁ (take_bytes step t bytes)
+-- from the start: a text so far. `step` is what one line more makes of a file, and H t that the text t is held
+pub record ReadSome {F : Type 0} (step : List ℕ → F → F) (none : Text F) (H : Text F → Type 0) : Type 0 where
+  pub text : List ℕ
+  pub holds : H (take_bytes step none text)
 
-  -- from the start: a text so far
-  pub record ReadSome (none : Text F) (H : Text F → Type 0) : Type 0 where
-    pub text : List ℕ
-    pub holds : H (take_bytes step none text)
+module _ {S K F : Type 0} (kept : S → K) (step : K → List ℕ → F → F) (Holds : Text F → S → Type 0) (start : S) where
+  -- between two reads: the reader keeps what it had at the start, and holds a text so far
+  pub record Loading (s : S) : Type 0 where
+    pub same : kept s ≡ kept start
+    pub so_far : (none : Text F) → Holds none start → ReadSome (step (kept start)) none (λ t. Holds t s)
 
-module _ {F : Type 0} {step : List ℕ → F → F} {none : Text F} where
+module _ {S K F : Type 0} {kept : S → K} {step : K → List ℕ → F → F} {Holds : Text F → S → Type 0} {start : S} where
   -- nothing is read yet
-  pub read_none : {H : Text F → Type 0} → H none → ReadSome step none H
+  pub read_none : Loading kept step Holds start start
   unfolding take_bytes
-  read_none h = record { text = []; holds = h }
+  read_none = record { same = refl; so_far = λ none h. record { text = []; holds = h } }
 
   -- a piece more
-  pub read_more : {H H₁ : Text F → Type 0} → ReadSome step none H → Took step H H₁ → ReadSome step none H₁
-  read_more {H} {H₁} h k = record {
-    text = h.text ++ k.bytes;
-    holds = subst H₁ (sym (pieces step none h.text k.bytes)) (k.holds (take_bytes step none h.text) h.holds);
+  pub read_more : {s s' : S} (piece : List ℕ) → Loading kept step Holds start s → kept s' ≡ kept s
+      → ((t : Text F) → Holds t s → Holds (take_bytes (step (kept s)) t piece) s') → Loading kept step Holds start s'
+  read_more {s' = s'} piece l e k = record {
+    same = e ∙ l.same;
+    so_far = λ none h.
+        let r = l.so_far none h in
+        record {
+          text = r.text ++ piece;
+          holds = subst (λ (t : Text F). Holds t s') (sym (pieces (step (kept start)) none r.text piece)) (rw l.same at k _ r.holds);
+        };
   }
 
   -- the end of the text
-  pub read_end : {H : Text F → Type 0} {K : F → Type 0} → ReadSome step none H → ((t : Text F) → H t → K (at_end step t)) → ReadWhole step none K
-  read_end h k = record { text = h.text; holds = k (take_bytes step none h.text) h.holds }
-
--- between two reads: the buffers are as long as at the start, and hold a text so far
-pub record Loading {F : Type 0} (step : List ℕ → F → F) (none : Text F) (H₀ H : Text F → Type 0) (a₀ b₀ report₀ a b report : List ℕ) : Type 0 where
-  pub a_long : length a ≡ length a₀
-  pub b_long : length b ≡ length b₀
-  pub report_long : length report ≡ length report₀
-  pub so_far : H₀ none → ReadSome step none H
+  pub read_end : {s : S} (s' : S) (HoldsFile : F → S → Type 0) → Loading kept step Holds start s
+      → ((t : Text F) → Holds t s → HoldsFile (at_end (step (kept s)) t) s')
+      → (none : Text F) → Holds none start → ReadWhole (step (kept start)) none (λ f. HoldsFile f s')
+  read_end s' HoldsFile l k none h = let r = l.so_far none h in record { text = r.text; holds = rw l.same at k _ r.holds }
 
 -- a whole text with no bad line
-pub usable : {name words table report : List ℕ} {r : Reading} → ReadWhole (Offsets.take_line name) Offsets.no_text (λ f. HoldsFile f r words table report) → r.tally.bads ≡ 0 → Usable name words
+pub usable : {name words table : List ℕ} {report : Report} {r : Reading} → ReadWhole (Offsets.take_line name) Offsets.no_text (λ f. HoldsFile f r words table report) → r.tally.bads ≡ 0 → Usable name words
 unfolding Offsets.file_of
 usable h none = record { text = h.text; good = sym h.holds.counts.bads ∙ none; members = h.holds.members }
 
-pub usable_pairs : {name to from report : List ℕ} {size : ℕ} {r : Tally} → ReadWhole (Pairs.take_pair name size) Pairs.no_text (λ f. HoldsPairs f r to from report) → r.bads ≡ 0
+pub usable_pairs : {name to from : List ℕ} {report : Report} {size : ℕ} {r : Tally} → ReadWhole (Pairs.take_pair name size) Pairs.no_text (λ f. HoldsPairs f r to from report) → r.bads ≡ 0
     → UsablePairs name size to from
 unfolding Pairs.pair_file_of
 usable_pairs h none = record {

@@ -1,4 +1,5 @@
 use byte_texts::Text;
+use libc::{EACCES, EBADF, EIO, EMFILE};
 use std::io;
 use std::io::{ErrorKind, Write};
 
@@ -15,15 +16,7 @@ pub enum Fragment<'a> {
     Reason(&'a io::Error),
 }
 
-// Errors of Linux that have a text of their own and no `ErrorKind`; that of EACCES has EPERM too.
-const EIO: i32 = 5;
-
-const EBADF: i32 = 9;
-
-const EACCES: i32 = 13;
-
-const EMFILE: i32 = 24;
-
+// Some errors of Linux have a text of their own and no `ErrorKind`; that of EACCES has EPERM too.
 fn reason(error: &io::Error) -> &'static [u8] {
     match error.kind() {
         ErrorKind::NotFound => b"there is no such file",

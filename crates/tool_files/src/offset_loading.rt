@@ -1,74 +1,28 @@
-ghost use Rattle.std.specs.Prelude.{◌≡◌, length, IfOk, OnOk};
+ghost use Rattle.std.specs.Prelude.{◌≡◌, IfOk, OnOk};
 ghost use Rattle.byte_texts.specs.Texts.{shown_name};
-ghost use Rattle.offset_files.specs.Files.{no_text, take_line};
-ghost use Rattle.offset_files.specs.Holds.{HoldsFile};
+ghost use Rattle.offset_files.specs.Files.{Text as TextOf};
+ghost use Rattle.offset_reads.specs.Readers.{kept, step, HoldsReader, HoldsText};
 ghost use Rattle.tool_files.specs.Loading.{ReadWhole, Usable};
 
-use crate::messages::Fragment::{Name, Number, Text};
-use crate::messages::{Trouble, fail, tell};
+use crate::messages::Trouble;
 use crate::opening::open_file;
-use crate::reads::{Reads, Unread};
-use crate::reports::{tell_bads, tell_report, tell_unread};
-use byte_texts::ShownName;
-use offset_files::Reading;
-use offset_reads::{finish, start, take};
+use crate::reads::{Unread, read_text};
+use crate::reports::{tell_repeats, tell_report, tell_tally, tell_unread};
+use byte_texts::{ShownName, Text};
+use offset_reads::{OffsetReader, start};
 use std::io::{Input, Read, Write};
 use std::rt::Files;
 use text_lines::OpenLine;
 
-// Reads a file to its end.
-fn read_offsets<F: Read>(
-    file: &mut F,
-    name: &[u8],
-    words: &mut [u64],
-    table: &mut [u64],
-    report: &mut [u8],
-) -> Result<Reading, Unread>
-    ensures { length words.old ≡ 1024 → length table.old ≡ 65536
-        → IfOk result (λ reading. ReadWhole (take_line name.now) no_text (λ f. HoldsFile f reading words.new table.new report.new)) }
+// The call of the generic function: what that leaves behind a reader's buffers is known to its caller only if it says so.
+fn read_offsets<F: Read>(file: &mut F, reader: &mut OffsetReader) -> Result<(), Unread>
+    ensures same_words { reader.new.words.ghost_name ≡ reader.old.words.ghost_name }
+    ensures same_table { reader.new.table.ghost_name ≡ reader.old.table.ghost_name }
+    ensures same_report { reader.new.report.ghost_name ≡ reader.old.report.ghost_name }
+    ensures whole { (none : TextOf) → HoldsText none reader.old
+        → IfOk result (λ _. ReadWhole (step (kept reader.old)) none (λ f. HoldsReader f reader.new)) }
 {
-    let mut buffer = [0u8; 65536];
-    let mut line = OpenLine::new();
-    let mut now = start(words, table);
-    let mut reads = Reads::new();
-    while let Some(count) = reads.read(file, &mut buffer)? {
-        now = take(&buffer[..count], now, name, &mut line, words, table, report);
-    }
-    Ok(finish(now, name, &line, words, table, report))
-}
-
-// What is said of a file that was read. Trouble where it may not be used.
-fn tell_file<E: Write>(
-    reading: Reading,
-    name: &[u8],
-    allow_empty: bool,
-    err: &mut E,
-    report: &[u8],
-) -> Result<(), Trouble> {
-    tell_report(name, err, report, reading.tally.report)?;
-    if reading.repeats > 20 {
-        tell(
-            err,
-            b"warning: ",
-            &[
-                Name(name),
-                Text(b": "),
-                Number((reading.repeats - 20) as u64),
-                Text(b" more offsets are named again"),
-            ],
-        )?;
-    }
-    tell_bads(name, err, reading.tally.bads)?;
-    if reading.tally.named == 0 && !allow_empty {
-        return Err(fail(
-            err,
-            &[
-                Name(name),
-                Text(b": it names no offset; with --allow-empty it may"),
-            ],
-        ));
-    }
-    Ok(())
+    read_text(file, reader)
 }
 
 fn load_open<F: Read, E: Write>(
@@ -85,17 +39,25 @@ fn load_open<F: Read, E: Write>(
     if words.len() != 1024 || table.len() != 65536 {
         return Err(Trouble);
     }
-    let mut report = [0u8; 16384];
-    let reading = match read_offsets(file, shown, words, table, &mut report) {
-        Ok(reading) => reading,
-        Err(unread) => return Err(tell_unread(name, err, unread)),
+    let mut space = [0u8; 16384];
+    let mut report = Text::new(&mut space);
+    let reading = start(words, table);
+    let mut reader = OffsetReader {
+        name: shown,
+        reading,
+        words,
+        table,
+        report: &mut report,
+        line: OpenLine::new(),
     };
-    tell_file(reading, name, allow_empty, err, &report)?;
-    if reading.tally.bads == 0 {
-        Ok(())
-    } else {
-        Err(Trouble)
+    if let Err(unread) = read_offsets(file, &mut reader) {
+        return Err(tell_unread(name, err, unread));
     }
+    let reading = reader.reading;
+    tell_report(name, err, report)?;
+    tell_repeats(name, err, reading.repeats)?;
+    let nothing = b": it names no offset; with --allow-empty it may";
+    tell_tally(name, err, reading.tally, allow_empty, nothing)
 }
 
 // The offsets of a file as the members of a set of 65,536 bits; `-` is the standard input.

@@ -1,71 +1,28 @@
-ghost use Rattle.std.specs.Prelude.{◌≡◌, length, IfOk, OnOk};
+ghost use Rattle.std.specs.Prelude.{◌≡◌, IfOk, OnOk};
 ghost use Rattle.byte_texts.specs.Texts.{shown_name};
-ghost use Rattle.pair_files.specs.Files.{no_text, take_pair};
-ghost use Rattle.pair_files.specs.Holds.{HoldsPairs};
+ghost use Rattle.pair_files.specs.Files.{PairText};
+ghost use Rattle.pair_files.specs.Readers.{kept, step, HoldsReader, HoldsText};
 ghost use Rattle.tool_files.specs.Loading.{ReadWhole, UsablePairs};
 
-use crate::messages::Fragment::{Name, Text};
-use crate::messages::{Trouble, fail};
+use crate::messages::Trouble;
 use crate::opening::open_file;
-use crate::reads::{Reads, Unread};
-use crate::reports::{tell_bads, tell_report, tell_unread};
-use byte_texts::ShownName;
-use pair_files::{finish, start, take};
+use crate::reads::{Unread, read_text};
+use crate::reports::{tell_report, tell_tally, tell_unread};
+use byte_texts::{ShownName, Text};
+use pair_files::{PairReader, start};
 use std::io::{Input, Read, Write};
 use std::rt::Files;
-use text_lines::{OpenLine, Tally};
+use text_lines::OpenLine;
 
-// Reads a file to its end.
-fn read_pairs<F: Read>(
-    file: &mut F,
-    name: &[u8],
-    size: usize,
-    to: &mut [u64],
-    from: &mut [u64],
-    report: &mut [u8],
-) -> Result<Tally, Unread>
-    ensures { length to.old ≡ 65536 → length from.old ≡ 65536
-        → IfOk result (λ tally. ReadWhole (take_pair name.now size) no_text (λ f. HoldsPairs f tally to.new from.new report.new)) }
+// The call of the generic function: what that leaves behind a reader's buffers is known to its caller only if it says so.
+fn read_pairs<F: Read>(file: &mut F, reader: &mut PairReader) -> Result<(), Unread>
+    ensures same_to { reader.new.to.ghost_name ≡ reader.old.to.ghost_name }
+    ensures same_from { reader.new.from.ghost_name ≡ reader.old.from.ghost_name }
+    ensures same_report { reader.new.report.ghost_name ≡ reader.old.report.ghost_name }
+    ensures whole { (none : PairText) → HoldsText none reader.old
+        → IfOk result (λ _. ReadWhole (step (kept reader.old)) none (λ f. HoldsReader f reader.new)) }
 {
-    let mut buffer = [0u8; 65536];
-    let mut line = OpenLine::new();
-    let mut now = start(to, from);
-    let mut reads = Reads::new();
-    while let Some(count) = reads.read(file, &mut buffer)? {
-        now = take(
-            &buffer[..count],
-            now,
-            name,
-            size,
-            &mut line,
-            to,
-            from,
-            report,
-        );
-    }
-    Ok(finish(now, name, size, &line, to, from, report))
-}
-
-// What is said of a file that was read. Trouble where it may not be used.
-fn tell_pairs<E: Write>(
-    tally: Tally,
-    name: &[u8],
-    allow_empty: bool,
-    err: &mut E,
-    report: &[u8],
-) -> Result<(), Trouble> {
-    tell_report(name, err, report, tally.report)?;
-    tell_bads(name, err, tally.bads)?;
-    if tally.named == 0 && !allow_empty {
-        return Err(fail(
-            err,
-            &[
-                Name(name),
-                Text(b": it names no pair; with --allow-empty it may"),
-            ],
-        ));
-    }
-    Ok(())
+    read_text(file, reader)
 }
 
 fn load_open_pairs<F: Read, E: Write>(
@@ -83,17 +40,25 @@ fn load_open_pairs<F: Read, E: Write>(
     if to.len() != 65536 || from.len() != 65536 {
         return Err(Trouble);
     }
-    let mut report = [0u8; 16384];
-    let tally = match read_pairs(file, shown, size, to, from, &mut report) {
-        Ok(tally) => tally,
-        Err(unread) => return Err(tell_unread(name, err, unread)),
+    let mut space = [0u8; 16384];
+    let mut report = Text::new(&mut space);
+    let tally = start(to, from);
+    let mut reader = PairReader {
+        name: shown,
+        size,
+        tally,
+        to,
+        from,
+        report: &mut report,
+        line: OpenLine::new(),
     };
-    tell_pairs(tally, name, allow_empty, err, &report)?;
-    if tally.bads == 0 {
-        Ok(())
-    } else {
-        Err(Trouble)
+    if let Err(unread) = read_pairs(file, &mut reader) {
+        return Err(tell_unread(name, err, unread));
     }
+    let tally = reader.tally;
+    tell_report(name, err, report)?;
+    let nothing = b": it names no pair; with --allow-empty it may";
+    tell_tally(name, err, tally, allow_empty, nothing)
 }
 
 // The pairs of a file as a table of each side, for a new set of `size` bits; `-` is the standard input.

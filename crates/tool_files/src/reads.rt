@@ -1,8 +1,11 @@
-ghost use Rattle.std.specs.Prelude.{◌<◌, IfOk, IfSome};
+ghost use Rattle.std.specs.Prelude.{◌≡◌, ◌<◌, IfOk, IfSome};
 ghost use Rattle.io.specs.Counts.{IsPrefixLen};
+ghost use Rattle.text_lines.specs.Texts.{Text};
+ghost use Rattle.tool_files.specs.Loading.{ReadWhole};
 
 use std::io;
 use std::io::{ErrorKind, Read};
+use text_lines::TextReader;
 
 // Why a file was not read to its end.
 #[derive(Clone, Copy)]
@@ -19,7 +22,7 @@ pub(crate) struct Reads {
 }
 
 impl Reads {
-    // The limit is 16 MiB: a proved loop has to end, and nothing says that a file does.
+    // The limits are 16 MiB and 1,000 signals: a proved loop has to end, and nothing says that a file or its signals do.
     pub(crate) fn new() -> Reads {
         Reads {
             left: 16777217,
@@ -53,4 +56,19 @@ impl Reads {
             }
         }
     }
+}
+
+// Reads a file to its end.
+pub(crate) fn read_text<F: Read, R: TextReader>(file: &mut F, reader: &mut R) -> Result<(), Unread>
+    ensures same { R.kept reader.new ≡ R.kept reader.old }
+    ensures whole { (none : Text R.File) → R.HoldsText none reader.old
+        → IfOk result (λ _. ReadWhole (R.step (R.kept reader.old)) none (λ f. R.HoldsFile f reader.new)) }
+{
+    let mut buffer = [0u8; 65536];
+    let mut reads = Reads::new();
+    while let Some(count) = reads.read(file, &mut buffer)? {
+        reader.take(&buffer[..count]);
+    }
+    reader.finish();
+    Ok(())
 }

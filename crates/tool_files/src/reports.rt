@@ -1,8 +1,10 @@
+ghost use Rattle.std.specs.Prelude.{◌≡◌, OnOk};
+
 use crate::messages::Fragment::{Name, Number, Reason, Text};
-use crate::messages::{Trouble, fail};
-use crate::parts::part;
+use crate::messages::{Trouble, fail, tell};
 use crate::reads::Unread;
 use std::io::Write;
+use text_lines::Tally;
 
 // Why a file was not read to its end.
 pub(crate) fn tell_unread<E: Write>(name: &[u8], err: &mut E, unread: Unread) -> Trouble {
@@ -18,21 +20,43 @@ pub(crate) fn tell_unread<E: Write>(name: &[u8], err: &mut E, unread: Unread) ->
     }
 }
 
-// Writes the report, the first `end` bytes of its buffer, which has room for all where that is not its length.
+// Writes the report, whose buffer has room for all where it does not end with it.
 pub(crate) fn tell_report<E: Write>(
     name: &[u8],
     err: &mut E,
-    report: &[u8],
-    end: usize,
+    report: byte_texts::Text,
 ) -> Result<(), Trouble> {
-    if end == report.len() {
+    if report.end == report.out.len() {
         return Err(fail(err, &[Name(name), Text(b": too much is to be said of it")]));
     }
-    err.write_all(part(report, 0, end)).map_err(|_| Trouble)
+    err.write_all(report.written()).map_err(|_| Trouble)
+}
+
+// Of which repeats the report has nothing.
+pub(crate) fn tell_repeats<E: Write>(
+    name: &[u8],
+    err: &mut E,
+    repeats: usize,
+) -> Result<(), Trouble> {
+    if repeats > 20 {
+        return tell(
+            err,
+            b"warning: ",
+            &[
+                Name(name),
+                Text(b": "),
+                Number((repeats - 20) as u64),
+                Text(b" more offsets are named again"),
+            ],
+        );
+    }
+    Ok(())
 }
 
 // Of which bad lines the report has nothing. Trouble where a line is bad.
-pub(crate) fn tell_bads<E: Write>(name: &[u8], err: &mut E, bads: usize) -> Result<(), Trouble> {
+fn tell_bads<E: Write>(name: &[u8], err: &mut E, bads: usize) -> Result<(), Trouble>
+    ensures { OnOk result (bads ≡ 0) }
+{
     if bads > 20 {
         return Err(fail(
             err,
@@ -45,4 +69,21 @@ pub(crate) fn tell_bads<E: Write>(name: &[u8], err: &mut E, bads: usize) -> Resu
         ));
     }
     if bads == 0 { Ok(()) } else { Err(Trouble) }
+}
+
+// What is said of the lines of a file; `nothing` where they name nothing. Trouble where the file may not be used.
+pub(crate) fn tell_tally<E: Write>(
+    name: &[u8],
+    err: &mut E,
+    tally: Tally,
+    allow_empty: bool,
+    nothing: &[u8],
+) -> Result<(), Trouble>
+    ensures { OnOk result (tally.bads ≡ 0) }
+{
+    tell_bads(name, err, tally.bads)?;
+    if tally.named == 0 && !allow_empty {
+        return Err(fail(err, &[Name(name), Text(nothing)]));
+    }
+    Ok(())
 }

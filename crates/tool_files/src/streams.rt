@@ -4,7 +4,6 @@ ghost use Rattle.listing_lines.specs.declared.pages.Page.{Page as PageOf};
 ghost use Rattle.tool_files.specs.Pieces.{Leaves};
 
 use crate::messages::{Trouble, incomplete, not_listed};
-use crate::parts::part;
 use listing_lines::{Page, Progress, Written};
 use std::io::Write;
 
@@ -38,7 +37,7 @@ where
         let Some(piece) = next_piece(page, &mut buffer) else {
             break;
         };
-        write_whole(out, part(&buffer, 0, piece.length), err)?;
+        write_whole(out, &buffer[..piece.length.min(buffer.len())], err)?;
         if piece.page.stage.is_over() {
             return Ok(());
         }

@@ -1,6 +1,11 @@
--- A file that may be used is a whole text with no bad line.
+-- A file that may be used is a whole text with no bad line. The words are what the reader left of them.
+use mathlib.Core.Path.{sym}
+use Rattle.std.proofs.lemmas.Result.{on_ok_weaker}
 use Rattle.tool_files.proofs.LoadLaws.{usable}
 use Rattle.tool_files.proofs.offset_loading.load_open.Goals as goal
 
-pub returns-then-reading-eq0 : goal.returns-then-reading-eq0
-returns-then-reading-eq0 g c = usable (c.in-Ok.ensures c.if-words-ne1024.false c.if-table-ne65536.false) c.if-reading-eq0.true
+pub returns : goal.returns
+returns g c =
+    let first = c.start-reading.ensures _ c.new-report.ensures.empty c.if-words-ne1024.false c.if-table-ne65536.false in
+    let whole = c.in_default.ensures.whole _ (record { file = first; rest = c.new.ensures }) in
+    rw (c.words-2-1.given.1.1 (sym c.read_offsets.ensures.same_words)) (on_ok_weaker c.tell_tally.result (usable whole) c.tell_tally.ensures)

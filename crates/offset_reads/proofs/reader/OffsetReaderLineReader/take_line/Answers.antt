@@ -9,7 +9,7 @@ use Rattle.offset_reads.proofs.reader.OffsetReaderLineReader.take_line.Goals as 
 pub returns : goal.returns
 unfolding take_line
 returns c = record {
-  same = rw c.take_body-self.ensures.same_buffer refl;
+  same = refl;
   holds = λ f full e h.
       let d = body_held line_of line_cut f.lines full h.counts.lines e c.body_of-body.ensures.bytes in
       c.take_body-self.ensures.held f (body_of f.lines full) d.is d.shown h;

@@ -9,7 +9,7 @@ use Rattle.pair_files.proofs.reader.PairReaderLineReader.take_line.Goals as goal
 pub returns : goal.returns
 unfolding take_pair
 returns c = record {
-  same = rw c.take_body-self.ensures.same_buffer refl;
+  same = refl;
   holds = λ f full e h.
       let d = body_held pair_line_of line_cut f.lines full h.counts.lines e c.body_of-body.ensures.bytes in
       c.take_body-self.ensures.held f (body_of f.lines full) d.is d.shown h;

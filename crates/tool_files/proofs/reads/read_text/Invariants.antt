@@ -1,0 +1,9 @@
+-- The reader holds a text so far; fewer bytes are left after each read.
+use Rattle.tool_files.proofs.LoadLaws.{Loading}
+use Rattle.tool_files.proofs.reads.read_text.Given as goal
+
+abbrev pub invariant-loop-count : goal.invariant-loop-count
+invariant-loop-count g l = Loading g.R.TextReader.kept g.R.TextReader.step g.R.TextReader.HoldsText l.initial.reader l.reader
+
+abbrev pub decreases-loop-count : goal.decreases-loop-count
+decreases-loop-count g l = l.reads.left
