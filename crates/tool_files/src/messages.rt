@@ -1,5 +1,4 @@
 use byte_texts::Text;
-use libc::{EACCES, EBADF, EIO, EMFILE};
 use std::io;
 use std::io::{ErrorKind, Write};
 
@@ -16,7 +15,15 @@ pub enum Fragment<'a> {
     Reason(&'a io::Error),
 }
 
-// Some errors of Linux have a text of their own and no `ErrorKind`; that of EACCES has EPERM too.
+// Errors of Linux that have a text of their own and no `ErrorKind`: that of EACCES has EPERM too. By number, since std has no names for them and a crate may not use libc.
+const EIO: i32 = 5;
+
+const EBADF: i32 = 9;
+
+const EACCES: i32 = 13;
+
+const EMFILE: i32 = 24;
+
 fn reason(error: &io::Error) -> &'static [u8] {
     match error.kind() {
         ErrorKind::NotFound => b"there is no such file",
