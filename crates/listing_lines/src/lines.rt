@@ -73,7 +73,7 @@ impl<'a> Listing<'a> {
     pub fn append_lines(self, out: &mut Text, offsets: &[u64], place: usize)
         ensures { place + length offsets.now < 2 ^ 64 → Appended out.old out.new (listed self.entry place offsets.now) }
     {
-        if usize::MAX - place < offsets.len() {
+        if place.checked_add(offsets.len()).is_none() {
             return;
         }
         out.append(b"");

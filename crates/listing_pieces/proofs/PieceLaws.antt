@@ -1,10 +1,9 @@
 -- A piece of lines, the last line, and no piece, by the page before it. Assumes nothing.
-use mathlib.Core.Path.{◌≡◌, refl, sym, ap, ap₂, subst, subst⁻¹, ◌∙◌}
+use mathlib.Core.Path.{◌≡◌, refl, sym, ap, ap₂, subst⁻¹, ◌∙◌}
 use mathlib.Core.Bool.{Bool, true, false, false≢true}
 use mathlib.Core.List.{List, [], ◌∷◌, ◌++◌, append_assoc, append-nil}
 use mathlib.Core.Logic.{◌⊎◌, inl, inr}
 use Prim.Native.Nat.{ℕ, ◌+◌, ◌≤◌, ◌<◌}
-use native.Mathlib.Nat.{le_refl}
 use native.Mathlib.Omega.{arith}
 use lib.ListN.{length, take}
 use Rattle.byte_texts.specs.Growth.{Appended}
@@ -105,14 +104,6 @@ module _ (job : Job) (name other : List ℕ) (a b : Members) where
       later = λ w. subst⁻¹ (λ (x : Stage). stage_number x ≤ 3) e (omega arith);
       moves = λ w m s. inr (subst⁻¹ (λ (x : Stage). stage_number x < 3) e (omega arith));
     }
-
-    -- ---- nothing is left to write
-
-    pub over_piece : {out : List ℕ} → page.stage ≡ Over → PieceRight job name other a b page out (record { length = 0; page = page; whole = true })
-    over_piece e = record { fits = omega arith; text = λ w. refl; later = λ w. le_refl (stage_number page.stage); moves = λ w m s. absurd (none (subst (λ (x : Stage). stage_number x < 3) e s)) }
-      where
-        none : 3 < 3 → ⊥
-        none i = omega arith
 
     -- ---- a piece that is not whole
 

@@ -115,9 +115,6 @@ module _ (job : Job) (ws vs : List ℕ) where
       };
     }
 
-    pub over_sure : PieceSure job a b (record { length = 0; page = page; whole = true })
-    over_sure = record { whole = refl; ready = d }
-
   -- ---- the first page
 
   pub first_ready : Ready job a b (first_page job)

@@ -1,8 +1,8 @@
 -- What the loop that fills a buffer keeps: what is written, and the lines of what is left, are the lines of the whole. Assumes nothing.
 use mathlib.Core.Path.{◌≡◌, refl, sym, ap, ap₂, subst⁻¹, ◌∙◌}
-use mathlib.Core.Bool.{true, false, false≢true}
+use mathlib.Core.Bool.{true, false≢true}
 use mathlib.Core.List.{List, ◌++◌, append_assoc}
-use Prim.Native.Nat.{ℕ, ◌+◌, ◌-◌, ◌^◌, ◌≤◌, ◌<◌, min}
+use Prim.Native.Nat.{ℕ, ◌+◌, ◌-◌, ◌≤◌, ◌<◌, min}
 use native.Mathlib.Omega.{arith}
 use lib.ListN.{length, take, drop, length-take, length-drop, take-append-drop}
 use Rattle.byte_texts.specs.Texts.{Written, written}
@@ -78,15 +78,6 @@ module _ (walk : Walk) (l : Listing) (ws vs : List ℕ) where
       pub counted : next + length (left q) ≡ place + length (left p)
       pub asked : Sure walk l ws vs p place → Asked ws vs q
 
-    pub filling_start : {t : Text} → t.end ≡ 0 → length t.out.now ≡ size → Filling t p place
-    filling_start {t} z e = record {
-      same = e;
-      inside = omega arith;
-      text = ap (λ (k : ℕ). take k t.out.now ++ listed l place (left p)) z;
-      counted = refl;
-      asked = λ s. s.asked;
-    }
-
     module _ {t : Text} {q : Records} {next : ℕ} (h : Filling t q next) where
       pub filling_more : {u : Text} {r : NextManyPair} → BatchRight walk l a b q next t u r → (Asked ws vs q → BatchSure ws vs r)
           → u.end < size → Filling u (records_of r) (next + r.count)
@@ -113,22 +104,7 @@ module _ (walk : Walk) (l : Listing) (ws vs : List ℕ) where
         λ s. record { whole = refl; asked = h.asked s },
       )
 
-      pub filling_stop : {out : List ℕ} → out ≡ t.out.now → size - t.end < 16384 → FilledWell out (record { length = t.end; records = q; place = next; over = false; whole = true })
-      filling_stop e z = subst⁻¹ (λ (xs : List ℕ). FilledWell xs (record { length = t.end; records = q; place = next; over = false; whole = true })) e (
-        record {
-          fits = omega (arith, h.same, h.inside);
-          text = λ w. h.text;
-          counted = λ w. h.counted;
-          ended = λ w o. absurd (false≢true o);
-          moves = λ w o m. omega (arith, h.same);
-        },
-        λ s. record { whole = refl; asked = h.asked s },
-      )
-
-      -- what is sure of them
-      pub sure_place : Sure walk l ws vs p place → next ≤ 2 ^ 32
-      sure_place s = omega (arith, h.counted, s.places)
-
+      -- a batch has room, where that is sure
       pub sure_room : {u : Text} {r : NextManyPair} → BatchRight walk l a b q next t u r → 16384 ≤ size - t.end → Sure walk l ws vs p place → u.end < size
       sure_room b m s = let e = batch_room b s.short (omega (arith, h.same)) in omega (arith, h.same)
 

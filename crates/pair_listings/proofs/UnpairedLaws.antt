@@ -2,14 +2,12 @@
 use mathlib.Core.Path.{◌≡◌, refl, sym, ap, ap₂, ◌∙◌, fun_ext}
 use mathlib.Core.Bool.{Bool, true, false, cond}
 use mathlib.Core.List.{List}
-use mathlib.Core.Logic.{◌⊎◌, inl, inr}
 use Prim.Native.Nat.{ℕ, zero, suc, ◌+◌, ◌≤◌, ◌<◌}
 use native.Mathlib.Nat.{add-zero}
 use native.Mathlib.Omega.{arith}
 use Rattle.word_bits.specs.Counts.{count}
 use Rattle.word_bits.specs.Digits.{one}
 use Rattle.word_bits.proofs.Ones.{count_low}
-use Rattle.word_bits.proofs.Order.{lt-or-le}
 use Rattle.sets.specs.Members.{read}
 use Rattle.std.specs.Prelude.{Some, None, count_by}
 use Rattle.std.specs.List.{range_with_len}
@@ -27,13 +25,6 @@ module _ (to : ℕ → ℕ) (ws : List ℕ) where
   module _ (from : ℕ) where
     abbrev pub Searching : ℕ → Type 0
     Searching p = (q : ℕ) → from ≤ q → q < p → f q ≡ false
-
-    pub searching_more : {p : ℕ} → Searching p → f p ≡ false → Searching (p + 1)
-    searching_more {p} h e = λ q a b. go q a b (lt-or-le q p)
-      where
-        go : (q : ℕ) → from ≤ q → q < p + 1 → (q < p) ⊎ (p ≤ q) → f q ≡ false
-        go q a b (inl l) = h q a l
-        go q a b (inr g) = let same : q ≡ p = omega arith in ap f same ∙ e
 
     pub searching_found : {p : ℕ} → Searching p → from ≤ p → p < 65536 → f p ≡ true → Some p ≡ unpaired_from to (offsets_of ws) from
     unfolding read

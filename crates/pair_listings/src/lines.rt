@@ -36,7 +36,7 @@ pub(crate) fn append_pair_lines(
 )
     ensures { place + length offsets.now < 2 ^ 64 → Appended out.old out.new (pair_lines_text places.sheet places.total place (entry_of table.now) offsets.now) }
 {
-    if usize::MAX - place < offsets.len() {
+    if place.checked_add(offsets.len()).is_none() {
         return;
     }
     out.append(b"");

@@ -142,14 +142,13 @@ impl Tables {
     pub fn append(self, out: &mut Text)
         ensures { self.same + self.different + self.trouble < 2 ^ 64 → Appended out.old out.new (tables_text self.same self.different self.trouble) }
     {
-        if u64::MAX - self.same < self.different {
+        let Some(compared) = self.same.checked_add(self.different) else {
             return;
-        }
-        let compared = self.same + self.different;
-        if u64::MAX - compared < self.trouble {
+        };
+        let Some(total) = compared.checked_add(self.trouble) else {
             return;
-        }
-        out.append_decimal(compared + self.trouble);
+        };
+        out.append_decimal(total);
         out.append(b" tables: ");
         out.append_decimal(self.same);
         out.append(b" same, ");

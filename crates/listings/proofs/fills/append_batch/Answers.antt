@@ -1,4 +1,4 @@
-use mathlib.Core.Path.{refl, sym, ap, ◌∙◌}
+use mathlib.Core.Path.{refl, ap}
 use native.Mathlib.Omega.{arith}
 use lib.ListN.{length, replicate}
 use Rattle.byte_texts.proofs.GrowthLaws.{appended_as}
@@ -15,14 +15,6 @@ known : (c : In_ok-many)
 known c =
     let a = c.args in
     given_64 a.walk.walk (offsets_of a.walk.words.now) (offsets_of a.walk.other.now) a.records (replicate 64 0) refl (c.in_ok-many.ensures.0 refl)
-
-pub slice_bounds-offsets-end : goal.slice_bounds-offsets-end
-slice_bounds-offsets-end c = (known (goal.at.slice_bounds-offsets-end c).In_ok-many).enough
-
-pub slice_bounds-append_lines-end : goal.slice_bounds-append_lines-end
-slice_bounds-append_lines-end c =
-    let g = known (goal.at.slice_bounds-append_lines-end c).In_ok-many in
-    g.counted ∙ sym (ap length g.offsets)
 
 pub returns-clause-right : goal.returns-clause-right
 returns-clause-right c =

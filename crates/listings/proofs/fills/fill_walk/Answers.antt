@@ -1,13 +1,12 @@
 use borrow.Author.Rules.{rules}
-use mathlib.Core.Path.{refl, ap, ◌∙◌}
+use mathlib.Core.Path.{refl, ◌∙◌}
 use Prim.Native.Nat.{◌+◌}
 use native.Mathlib.Omega.{arith}
 use lib.ListN.{length}
-use Rattle.sets.proofs.RefusalLaws.{number_ne0}
 use Rattle.next_many.specs.Calls.{accepted_pair}
 use Rattle.listings.specs.Fills.{records_of, BatchRight}
 use Rattle.listings.specs.Pages.{offsets_of}
-use Rattle.listings.proofs.FillLaws.{Filling, filling_start, filling_more, filling_over, filling_stop, unfilled, sure_place, sure_room, batch_most, batch_last, batch_less}
+use Rattle.listings.proofs.FillLaws.{Filling, filling_more, filling_over, unfilled, sure_room, batch_most, batch_last, batch_less}
 use Rattle.listings.proofs.fills.fill_walk.Goals as goal
 use Rattle.listings.proofs.fills.fill_walk.Goals.{In-Ok, Else-size-text}
 
@@ -23,21 +22,6 @@ more : (c : Else-size-text)
     Filling a.walk.walk a.listing a.walk.words.now a.walk.other.now a.records a.place (length a.out.now)
     c.append_batch.new.text (records_of (accepted_pair c.in-Ok.many)) (c.loop-text.next + c.in-Ok.many.count)
 more c = filling_more _ _ _ _ _ _ _ c.loop-text.invariant.0 (c.in-Ok.ensures.right refl) c.in-Ok.ensures.sure c.if-size-text.false
-
-pub loop-text-init : goal.loop-text-init
-loop-text-init c = (filling_start _ _ _ _ _ _ _ c.new-text.ensures.empty (ap length c.new-text.ensures.same_bytes), refl)
-
-pub overflow_sub-size : goal.overflow_sub-size
-overflow_sub-size c = c.loop-text.invariant.0.inside
-
-pub returns-then-next-gt4294967296 : goal.returns-then-next-gt4294967296
-returns-then-next-gt4294967296 c =
-    let h = c.loop-text.invariant.0 in
-    unfilled _ _ _ _ _ _ 0 (λ s. omega (arith, c.if-next-gt4294967296.true, sure_place _ _ _ _ _ _ _ h s))
-
-pub returns-in_default : goal.returns-in_default
-returns-in_default c =
-    unfilled _ _ _ _ _ _ 0 (λ s. number_ne0 _ (c.in_default.ensures.sure (c.loop-text.invariant.0.asked s)).accepted)
 
 pub returns-then-size-text : goal.returns-then-size-text
 returns-then-size-text c =
@@ -57,6 +41,3 @@ loop-text-smaller c = batch_less _ _ _ _ (known (goal.at.loop-text-smaller c).In
 
 pub loop-text-preserved : goal.loop-text-preserved
 loop-text-preserved c = (more (goal.at.loop-text-preserved c).Else-size-text, c.append_batch.ensures.buffer ∙ c.loop-text.invariant.1)
-
-pub returns : goal.returns
-returns c = filling_stop _ _ _ _ _ _ _ c.loop-text.invariant.0 (search rules) c.loop-text-test.false

@@ -9,9 +9,6 @@ use Rattle.pair_listings.proofs.moves.mark_each.Goals as goal
 pub loop-p-init : goal.loop-p-init
 loop-p-init c = λ vs room e. named_start _ vs e
 
-pub loop-p-preserved : goal.loop-p-preserved
-loop-p-preserved c = λ vs room e. c.mark_named.ensures vs room c.loop-p-test.true (c.loop-p.invariant vs room e)
-
 pub returns : goal.returns
 returns c = λ vs room e.
     let l = c.loop-p in

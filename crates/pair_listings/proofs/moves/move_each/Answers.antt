@@ -9,9 +9,6 @@ use Rattle.pair_listings.proofs.moves.move_each.Goals as goal
 pub loop-p-init : goal.loop-p-init
 loop-p-init c = λ vs room e. moved_start _ _ vs e
 
-pub loop-p-preserved : goal.loop-p-preserved
-loop-p-preserved c = λ vs room e. c.move_member.ensures vs room (c.loop-p.invariant vs room e)
-
 pub returns : goal.returns
 unfolding read
 returns c = λ vs room e.

@@ -23,11 +23,6 @@ returns-in_default c =
     no_piece a.job (entry_of a.table.now) a.set.words.now a.page
     (λ x. number_ne0 _ (accepted a.set.words.now a.page.records (replicate 128 0) c.in_default.ensures a.set.sound x.ready.asked))
 
-pub returns-then-page-gt4294967296 : goal.returns-then-page-gt4294967296
-returns-then-page-gt4294967296 c =
-    let a = c.args in
-    no_piece a.job (entry_of a.table.now) a.set.words.now a.page (λ x. omega (arith, c.if-page-gt4294967296.true, x.ready.places))
-
 pub slice_bounds-offsets-end : goal.slice_bounds-offsets-end
 slice_bounds-offsets-end c = (known (goal.at.slice_bounds-offsets-end c).In-Ok).enough
 
