@@ -1,13 +1,13 @@
 -- A piece more is written.
 use mathlib.Core.Path.{◌≡◌, refl, sym, subst, ap, ◌∙◌}
 use mathlib.Core.Bool.{Bool, true}
-use Prim.Native.Nat.{ℕ, ◌-◌}
-use native.Mathlib.Numerals.{unary_clauses}
+use Prim.Native.Nat.{ℕ, min}
 use mathlib.Core.List.{List, [], ◌++◌, append-nil, append_assoc}
-use Rattle.std.specs.Prelude.{Option, Some, take, drop}
+use Rattle.std.specs.Prelude.{Option, Some, length, take}
 use Rattle.std.specs.Borrow.{MutBor}
 use Rattle.std.specs.Fn.{Shared}
 use Rattle.std.specs.Io.KnownBytes.{Appends}
+use Rattle.std.proofs.lemmas.List.{take_min}
 use Rattle.std.proofs.KnownBytes.{Appends-nil, Appends-trans}
 use Rattle.listing_lines.specs.declared.pages.Page.{Page}
 use Rattle.listing_lines.specs.declared.pages.Written.{Written}
@@ -18,13 +18,13 @@ module _ {F S R : Type 0} {calls : Shared F (Page S R × (MutBor (List ℕ) × U
   at_first a = record { text = []; written = Appends-nil a; left = refl }
 
   module _ {page : Page S R} (a b c : Option (List ℕ)) (l : Leaves calls f over rest) where
-    pub one_more : Upto calls f over rest first page a b → {lent back : MutBor (List ℕ)} {result : Option (Written S R)} {w : Written S R} {text : List ℕ}
+    pub one_more : Upto calls f over rest first page a b → {lent back : MutBor (List ℕ)} {result : Option (Written S R)} {w : Written S R} {n : ℕ}
         → calls.post f (page, (lent, tt)) (result, (back, tt)) → result ≡ Some w
-        → text ≡ take (w.length - 0) (drop 0 back.now) → Appends b c text → Upto calls f over rest first w.page a c
+        → n ≡ min w.length (length back.now) → Appends b c (take n back.now) → Upto calls f over rest first w.page a c
     one_more u {lent} {back} {result} {w} made is cut h =
         let p : take w.length back.now ++ rest w.page ≡ rest page = l.piece page lent back w (subst (λ r. calls.post f (page, (lent, tt)) (r, (back, tt))) is made) in record {
           text = u.text ++ take w.length back.now;
-          written = Appends-trans a b c u.text (take w.length back.now) u.written (simp unary_clauses at (subst (λ t. Appends b c t) cut h));
+          written = Appends-trans a b c u.text (take w.length back.now) u.written (subst (λ t. Appends b c t) (ap (λ k. take k back.now) cut ∙ take_min w.length back.now) h);
           left = append_assoc u.text (take w.length back.now) (rest w.page) ∙ ap (λ t. u.text ++ t) p ∙ u.left;
         }
 
