@@ -1,3 +1,7 @@
+ghost use Rattle.std.specs.Prelude.{OnOk};
+ghost use Rattle.std.specs.Io.KnownBytes.{Appends};
+ghost use Rattle.tool_files.specs.Telling.{Told};
+
 use byte_texts::Text;
 use std::io;
 use std::io::{ErrorKind, Write};
@@ -44,8 +48,17 @@ fn reason(error: &io::Error) -> &'static [u8] {
     }
 }
 
+// Writes all of a text to the error stream.
+pub fn write_report<E: Write>(err: &mut E, text: &[u8]) -> Result<(), Trouble>
+    ensures { OnOk result (Appends (E.contents err.old) (E.contents err.new) text.now) }
+{
+    err.write_all(text).map_err(|_| Trouble)
+}
+
 // Writes one line, of up to 255 bytes: how it starts, and the message.
-pub fn tell<E: Write>(err: &mut E, start: &[u8], message: &[Fragment]) -> Result<(), Trouble> {
+pub fn tell<E: Write>(err: &mut E, start: &[u8], message: &[Fragment]) -> Result<(), Trouble>
+    ensures { OnOk result (Told start.now message.now (E.contents err.old) (E.contents err.new)) }
+{
     let mut line = [0u8; 256];
     let mut text = Text::new(&mut line);
     text.append(start);
@@ -58,7 +71,7 @@ pub fn tell<E: Write>(err: &mut E, start: &[u8], message: &[Fragment]) -> Result
         }
     }
     text.append(b"\n");
-    err.write_all(text.written()).map_err(|_| Trouble)
+    write_report(err, text.written())
 }
 
 // Says why something cannot be done.

@@ -1,7 +1,7 @@
 ghost use Rattle.std.specs.Prelude.{◌≡◌, OnOk};
 
 use crate::messages::Fragment::{Name, Number, Reason, Text};
-use crate::messages::{Trouble, fail, tell};
+use crate::messages::{Trouble, fail, tell, write_report};
 use crate::reads::Unread;
 use std::io::Write;
 use text_lines::Tally;
@@ -29,7 +29,7 @@ pub(crate) fn tell_report<E: Write>(
     if report.end == report.out.len() {
         return Err(fail(err, &[Name(name), Text(b": too much is to be said of it")]));
     }
-    err.write_all(report.written()).map_err(|_| Trouble)
+    write_report(err, report.written())
 }
 
 // Of which repeats the report has nothing.

@@ -4,7 +4,7 @@ ghost use Rattle.pair_listings.specs.Tables.{entry_of, offsets_of, unpaired_coun
 use byte_texts::{ShownName, Text};
 use pair_listings::{append_unpaired, count_unpaired, first_unpaired};
 use std::io::Write;
-use tool_files::{Fragment, Trouble, fail};
+use tool_files::{Fragment, Trouble, fail, write_report};
 
 // Messages of the first 20 members that no pair names, in a lent buffer. `table` has the lines of the old file.
 fn report_members<'a>(
@@ -47,7 +47,7 @@ pub fn all_paired<E: Write>(
     let pairs = ShownName::new(pairs_name);
     let mut space = [0u8; 8192];
     let report = report_members(&mut space, words, table, to, old.bytes(), pairs.bytes());
-    err.write_all(report).map_err(|_| Trouble)?;
+    write_report(err, report)?;
     if count > 20 {
         return Err(fail(
             err,
