@@ -8,5 +8,6 @@ mod steps;
 mod words;
 
 pub use records::{End, Step};
+pub use search::{back_selected, front_selected};
 pub use selections::{Difference, Intersection, Ones, Select, Zeroes};
 pub use steps::step_selected;

@@ -24,7 +24,7 @@ fn last_word<S: Select>(words: &[u64], other: &[u64], first: usize, end: usize) 
 }
 
 // The smallest selected position from low up to the end of high's word: high is the caller's to ask, so that no word but the first is cut.
-pub(crate) fn front_selected<S: Select>(
+pub fn front_selected<S: Select>(
     words: &[u64],
     other: &[u64],
     low: usize,
@@ -47,7 +47,7 @@ pub(crate) fn front_selected<S: Select>(
 }
 
 // The largest selected position below high, down to the start of low's word: low is the caller's to ask.
-pub(crate) fn back_selected<S: Select>(
+pub fn back_selected<S: Select>(
     words: &[u64],
     other: &[u64],
     low: usize,

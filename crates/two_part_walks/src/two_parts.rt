@@ -40,7 +40,7 @@ fn two_part_step<S: Select>(
     let both = Checked::both(a, words, b, other)?;
     a.ask_part(one)?;
     b.ask_part(two)?;
-    let step = step_rows::<S, Difference>(both.0, both.1, one, two, end);
+    let step = step_rows::<S, Difference>(both.0.words, both.1.words, one, two, end);
     Ok(place(one, two, step))
 }
 

@@ -1,5 +1,6 @@
 -- The members of the sets of a walk as bits of their own words, and its questions in order. Assumes nothing.
 use mathlib.Core.Path.{◌≡◌, ap, ap₂, sym, fun_ext, ◌∙◌}
+use mathlib.Core.Bool.{Bool}
 use mathlib.Core.List.{List}
 use mathlib.Core.Logic.{◌⊎◌, inl, inr}
 use Prim.Native.Nat.{ℕ, ◌/◌, ◌%◌, ◌≤◌, ◌<◌}
@@ -20,7 +21,10 @@ use Rattle.sets.proofs.RefusalLaws.{number_ne0}
 use Rattle.sets.proofs.ReadLaws.{read_bit, read_above}
 use Rattle.sets.proofs.WordLaws.{words_hold}
 use Rattle.parts.specs.Selections.{Selection, selected}
-use Rattle.walks.specs.Helpers.{chosen}
+use Rattle.parts.specs.declared.records.End.{End}
+use Rattle.sets.specs.declared.answers.Part.{Part}
+use Rattle.walks.specs.Helpers.{chosen, row_of, row_step}
+use Rattle.walks.specs.declared.rows.RowStep.{RowStep}
 
 -- a bit past a set's own words is no
 pub own_bits : (n : ℕ) (ws : List ℕ) → Sound n ws → (p : ℕ) → bit_of ws p ≡ (read ws (record { length = n })).has p
@@ -36,6 +40,11 @@ own_bits n ws s p = go (lt-or-le (p / 64) (words_of n))
 -- a part over the bits of both sets' own words is one over their members
 pub own_chosen : (s : Selection) (a b : Checked) → (λ p. selected s (bit_of a.words.now p) (bit_of b.words.now p)) ≡ chosen s (members a) (members b)
 own_chosen s a b = fun_ext (λ p. ap₂ (selected s) (own_bits a.length a.words.now a.sound p) (own_bits b.length b.words.now b.sound p))
+
+-- a step of the words of checked sets is one of their members
+pub own_rows : (s l : Selection) (a b : Checked) (end : End) (one two : Part) {r : RowStep} → r ≡ row_step end (row_of s a.words.now b.words.now) (row_of l b.words.now a.words.now) one two
+    → r ≡ row_step end (chosen s (members a) (members b)) (chosen l (members b) (members a)) one two
+own_rows s l a b end one two h = h ∙ ap₂ (λ (f g : ℕ → Bool). row_step end f g one two) (own_chosen s a b) (own_chosen l b a)
 
 -- a question that says no gives the number, whatever is asked after it
 pub first_number : (b : ℕ) {a : ℕ} (e : Refusal) → number e ≡ a → number e ≡ first a b

@@ -1,6 +1,6 @@
 -- The positions of a part, and a step of one of two parts as the code takes it.
-use Rattle.std.specs.Prelude.{Bool, true, false, cond, not, ℕ}
-use Rattle.sets.specs.Members.{Members}
+use Rattle.std.specs.Prelude.{Bool, true, false, cond, not, List, ℕ}
+use Rattle.sets.specs.Members.{Members, bit_of}
 use Rattle.parts.specs.Selections.{Selection, selected}
 use Rattle.parts.specs.Steps.{front, back}
 use Rattle.parts.specs.declared.records.End.{End}
@@ -14,6 +14,10 @@ use Rattle.walks.specs.declared.rows.RowStep.{RowStep}
 -- what the selection gives of the first set, given the second
 abbrev pub chosen : Selection → Members → Members → ℕ → Bool
 chosen selection a b p = selected selection (a.has p) (b.has p)
+
+-- and of the first words, given the second
+abbrev pub row_of : Selection → List ℕ → List ℕ → ℕ → Bool
+row_of selection ws vs p = selected selection (bit_of ws p) (bit_of vs p)
 
 -- the steps of both, the one tried first in front; `second` tells whether that is the second part's
 abbrev pub tried : Bool → Step → Step → RowStep

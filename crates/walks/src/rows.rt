@@ -1,8 +1,8 @@
-// Steps over the members of checked sets: no question is asked.
+// Steps over checked sets and over any words: no question is asked.
 ghost use Rattle.std.specs.Prelude.{◌≡◌};
 ghost use Rattle.sets.specs.CheckedSets.{members};
 ghost use Rattle.parts.specs.Steps.{step};
-ghost use Rattle.walks.specs.Helpers.{chosen, tried, row_step};
+ghost use Rattle.walks.specs.Helpers.{chosen, row_of, tried, row_step};
 
 use parts::{End, Select, Step, step_selected};
 use sets::{Checked, Part};
@@ -24,16 +24,16 @@ pub fn step_row<S: Select>(a: Checked<'_>, b: Checked<'_>, part: Part, end: End)
 
 // `second` tells whether `part`, which is tried first, is the second part.
 fn try_rows<S: Select, L: Select>(
-    a: Checked<'_>,
-    b: Checked<'_>,
+    words: &[u64],
+    other: &[u64],
     part: Part,
     later: Part,
     end: End,
     second: bool,
 ) -> RowStep
-    ensures { result ≡ tried second (step end (chosen S.selection (members a.entry) (members b.entry)) part) (step end (chosen L.selection (members b.entry) (members a.entry)) later) }
+    ensures { result ≡ tried second (step end (row_of S.selection words.now other.now) part) (step end (row_of L.selection other.now words.now) later) }
 {
-    let step = step_row::<S>(a, b, part, end);
+    let step = step_selected::<S>(words, other, part, end);
     match step.at {
         Some(p) => RowStep {
             second,
@@ -41,7 +41,7 @@ fn try_rows<S: Select, L: Select>(
             part: step.part,
         },
         None => {
-            let last = step_row::<L>(b, a, later, end);
+            let last = step_selected::<L>(other, words, later, end);
             RowStep {
                 second: !second,
                 at: last.at,
@@ -51,20 +51,20 @@ fn try_rows<S: Select, L: Select>(
     }
 }
 
-// A step of two parts: the first is what `S` selects of the first set given the second, the second what `L` selects of the second given the first.
+// A step of two parts: the first is what `S` selects of the first slice given the second, the second what `L` selects of the second given the first.
 // Written out in each call: a step of `union` took half as many instructions again without.
 #[inline(always)]
 pub fn step_rows<S: Select, L: Select>(
-    a: Checked<'_>,
-    b: Checked<'_>,
+    words: &[u64],
+    other: &[u64],
     one: Part,
     two: Part,
     end: End,
 ) -> RowStep
-    ensures { result ≡ row_step end (chosen S.selection (members a.entry) (members b.entry)) (chosen L.selection (members b.entry) (members a.entry)) one two }
+    ensures { result ≡ row_step end (row_of S.selection words.now other.now) (row_of L.selection other.now words.now) one two }
 {
     match end {
-        End::Front => try_rows::<S, L>(a, b, one, two, End::Front, false),
-        End::Back => try_rows::<L, S>(b, a, two, one, End::Back, true),
+        End::Front => try_rows::<S, L>(words, other, one, two, End::Front, false),
+        End::Back => try_rows::<L, S>(other, words, two, one, End::Back, true),
     }
 }

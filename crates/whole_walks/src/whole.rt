@@ -103,7 +103,7 @@ fn take_steps<S: Select>(
     let mut records = first;
     for k in 0..steps.len() {
         let end = end_of(steps[k]);
-        let step = step_rows::<S, Difference>(a, b, records.one, records.two, end);
+        let step = step_rows::<S, Difference>(a.words, b.words, records.one, records.two, end);
         records = records.after(end, step);
         out[k] = answer_word(step.at);
     }

@@ -6,7 +6,8 @@ use Rattle.sets.proofs.RefusalLaws.{answer_refused}
 use Rattle.walks.specs.Helpers.{chosen, row_step, placed}
 use Rattle.walks.specs.Rules.{taken_pair, without}
 use Rattle.walks.proofs.PairLaws.{placed_is}
-use Rattle.walks.proofs.WalkLaws.{first_number}
+use Rattle.parts.specs.Selections.{Difference}
+use Rattle.walks.proofs.WalkLaws.{first_number, own_rows}
 use Rattle.two_part_walks.proofs.two_parts.two_part_step.Goals as goal
 
 pub returns-in_err-both : goal.returns-in_err-both
@@ -28,5 +29,5 @@ returns g c =
     given_yes _ (first-yes (sym c.in_ok-both.ensures.number) (first-yes (sym c.in_ok-ask_part.ensures) c.in_ok-ask_part-2.ensures))
     (ap taken_pair
     (c.place.ensures ∙ ap (placed a.one a.two)
-    (c.step_rows-step.ensures ∙ ap₂ (λ (x y : Members). row_step a.end (chosen g.S.Select.selection x y) (without y x) a.one a.two) same.0 same.1)
+    (own_rows g.S.Select.selection Difference c.in_ok-both.both.0 c.in_ok-both.both.1 a.end a.one a.two c.step_rows-step.ensures ∙ ap₂ (λ (x y : Members). row_step a.end (chosen g.S.Select.selection x y) (without y x) a.one a.two) same.0 same.1)
     ∙ placed_is _ _ a.one a.two a.end))
