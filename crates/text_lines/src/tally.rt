@@ -35,10 +35,8 @@ impl Tally {
     pub fn blank_line(self) -> Tally
         ensures { (f : Counts) (report : TextOf) → HoldsCounts f self report → HoldsCounts (blank_counts f) result report }
     {
-        Tally {
-            lines: more(self.lines),
-            ..self
-        }
+        let lines = more(self.lines);
+        Tally { lines, ..self }
     }
 
     // A bad line more.
