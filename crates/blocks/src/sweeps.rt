@@ -14,6 +14,7 @@ pub fn block(words: &[u64], k: usize) -> u64
 pub fn change_blocks(words: &mut [u64], first: usize, end: usize, keep: u64, flip: u64)
     ensures { words.new ≡ swept first end (λ (k w : ℕ). bit_xor (bit_and w keep) flip) words.old }
 {
+    // By the index: a slice from `first` on would stop where `first` is past the end.
     for k in first..end.min(words.len()) {
         words[k] = (words[k] & keep) ^ flip;
     }

@@ -14,10 +14,7 @@ use two_sets::{difference_with, intersect_with, symmetric_difference_with, union
 fn put_only(target: FixedBitSet, words: &mut [u64], bit: usize) -> Result<FixedBitSet, Refusal>
     ensures { outcome (edited_of target result) words.new ≡ (put_rule target words.old bit).edit }
 {
-    match put(target, words, bit) {
-        Ok((after, _)) => Ok(after),
-        Err(refusal) => Err(refusal),
-    }
+    put(target, words, bit).map(|(after, _)| after)
 }
 
 // The call on the target, the other set read.

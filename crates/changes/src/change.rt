@@ -1,7 +1,7 @@
 ghost use Rattle.std.specs.Prelude.{◌≡◌, Bool, get_or, set as set_at};
 ghost use Rattle.changes.specs.Changes.{effect, changed_word};
 
-// What happens to each bit that an edit names. No closure: `set` and `copy_bit` choose as they run, and the rules name the change.
+// What happens to each bit that an edit names. No closure: `set` and `copy_bit` choose as they run.
 #[derive(Clone, Copy, Debug, PartialEq, Eq)]
 pub enum Change {
     Insert,

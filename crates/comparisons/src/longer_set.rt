@@ -7,7 +7,7 @@ ghost use Rattle.comparisons.specs.Rules.{longer_rule};
 use set_views::as_slice;
 use sets::{FixedBitSet, Refusal};
 
-// The words of the longer set, as a part of its own slice: the second's for equal lengths. Asks 1 to 3 of both sets.
+// The words of the longer set, as a part of its own slice: the second's for equal lengths. Asks 1 to 3 of both sets. The specification has the part and its number as two calls.
 pub fn longer<'a>(a: FixedBitSet, words: &'a [u64], b: FixedBitSet, other: &'a [u64]) -> &'a [u64]
     ensures { slice_part result ≡ longer_rule a words.entry b other.entry }
 {

@@ -2,7 +2,7 @@ use sets::{Counted, Edited, FixedBitSet, Refusal, Told};
 use std::io::Print;
 use std::{fmt, io};
 
-// How many cases were run, and how many answered other than the document says.
+// How many cases were run, and how many answered other than the document says. Answers are judged and printed by their numbers, as the document has them.
 #[derive(Clone, Copy)]
 pub struct Report<'r, R> {
     rt: &'r R,

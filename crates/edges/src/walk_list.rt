@@ -79,10 +79,7 @@ fn zeroes<R: Print>(report: &mut Report<'_, R>) -> io::Result<()> {
             break;
         };
         part = step.part;
-        *answer = match step.at {
-            Some(position) => position as u64,
-            None => u64::MAX,
-        };
+        *answer = step.at.map_or(u64::MAX, |position| position as u64);
     }
     report.numbers(
         "   L = 3, {1}: zeroes, three front steps",

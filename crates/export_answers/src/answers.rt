@@ -51,6 +51,7 @@ pub struct FbsLonger {
     pub count: usize,
 }
 
+// What the answers above have of an `Option`.
 #[derive(Clone, Copy)]
 struct Place {
     found: bool,

@@ -5,7 +5,7 @@ ghost use Rattle.sets.specs.Rules.{with_capacity_rule, with_capacity_and_blocks_
 ghost use Rattle.sets.specs.Rules.{len_rule, is_empty_rule};
 ghost use Rattle.export_answers.specs.Slices.{export_slice};
 
-use export_answers::FbsSlice;
+use export_answers::{FbsSlice, number};
 use fresh_sets::{with_capacity, with_capacity_and_blocks};
 use set_views::{as_slice, as_slice_number, is_empty, len};
 use sets::{Counted, Edited, FixedBitSet, Told};
@@ -59,8 +59,5 @@ pub extern "C" fn fbs_as_slice(set: FixedBitSet, words: &[u64]) -> FbsSlice
 pub extern "C" fn fbs_as_slice_number(set: FixedBitSet, words: &[u64]) -> u64
     ensures { result ≡ questions set words.now }
 {
-    match as_slice_number(set, words) {
-        Ok(()) => 0,
-        Err(refusal) => refusal.into(),
-    }
+    number(as_slice_number(set, words))
 }

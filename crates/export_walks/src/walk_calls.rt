@@ -10,6 +10,7 @@ use sets::{FixedBitSet, Part};
 use walkers::walker_step;
 use walks::{first_part, ones_next, ones_next_back, zeroes_next};
 
+// No `From`: a bool alone does not say which end it is.
 fn end_at(back: bool) -> End
     ensures { result ≡ end_at back }
 {

@@ -10,7 +10,7 @@ pub struct Many {
     pub part: Part,
 }
 
-// The same of two parts: `one` is the record of the first, over the first set; `two` that of the second, over the second.
+// The same of two parts, by name, as C has them: `one` is the record of the first, over the first set; `two` that of the second, over the second.
 #[derive(Clone, Copy)]
 pub struct ManyPair {
     pub count: usize,

@@ -10,12 +10,13 @@ fn join<F: Fn(u64, u64) -> u64>(words: &mut [u64], other: &[u64], end: usize, wo
     requires { F.IsAlwaysCallable word }
     ensures { (op : ℕ → ℕ → ℕ) → Makes (F.post word) op → words.new ≡ swept 0 (min end (length other.now)) (λ (k w : ℕ). op w (get_or other.now k 0)) words.old }
 {
+    // By the index: nothing is known of words that an adapter of `iter_mut` writes.
     for k in 0..end.min(other.len()).min(words.len()) {
         words[k] = word(words[k], other[k]);
     }
 }
 
-// The words below `end` that both slices have become the join of the two. Asks nothing: for the calls of this library, which have asked.
+// The words below `end` that both slices have become the join of the two. A closure for each case, since a function cannot give one back. Asks nothing: for the calls of this library, which have asked.
 pub fn join_common(words: &mut [u64], other: &[u64], end: usize, operation: Operation)
     ensures { words.new ≡ swept 0 (min end (length other.now)) (λ (k w : ℕ). joined_word operation w (get_or other.now k 0)) words.old }
 {

@@ -1,4 +1,4 @@
-// What two bits make. The rules name it; each call chooses its closure once, before the loop.
+// What two bits make. No type parameter: the words that one set alone has go by the case, and not by the closure of two words.
 #[derive(Clone, Copy)]
 pub enum Operation {
     Union,

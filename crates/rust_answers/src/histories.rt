@@ -10,8 +10,8 @@ use word_lists::part;
 // The sum of (word k xor k) over the first words.
 fn checksum(words: &[u64], blocks: usize) -> u64 {
     let mut sum: u64 = 0;
-    for k in 0..blocks.min(words.len()) {
-        sum = sum.wrapping_add(words[k] ^ k as u64);
+    for (k, word) in words.iter().take(blocks).enumerate() {
+        sum = sum.wrapping_add(*word ^ k as u64);
     }
     sum
 }

@@ -1,19 +1,18 @@
 // What is read of a line: its numbers go into a lent slice, one after the other. After a `#` the rest of the line is a comment.
 #[derive(Clone, Copy, Debug, PartialEq, Eq)]
 pub struct Reading {
-    pub value: u64,
-    pub in_number: bool,
+    // The number so far, within one.
+    pub number: Option<u64>,
     pub in_comment: bool,
     pub count: usize,
-    // A number or a line is too long, or a byte is none that a line has.
+    // A number or a line is too long, or a byte is none that a line has. A flag: the rest of the line is read to its end.
     pub is_bad: bool,
 }
 
 impl Reading {
     pub fn start() -> Reading {
         Reading {
-            value: 0,
-            in_number: false,
+            number: None,
             in_comment: false,
             count: 0,
             is_bad: false,
@@ -30,31 +29,27 @@ fn bad(reading: Reading) -> Reading {
 
 // A digit more of a number. One that is no word is bad.
 fn digit(reading: Reading, digit: u64) -> Reading {
-    let Some(tens) = reading.value.checked_mul(10) else {
-        return bad(reading);
-    };
-    let Some(value) = tens.checked_add(digit) else {
+    let tens = reading.number.unwrap_or(0).checked_mul(10);
+    let Some(number) = tens.and_then(|tens| tens.checked_add(digit)) else {
         return bad(reading);
     };
     Reading {
-        value,
-        in_number: true,
+        number: Some(number),
         ..reading
     }
 }
 
 // The number that ends here goes after those before it.
 pub fn ended(reading: Reading, numbers: &mut [u64]) -> Reading {
-    if !reading.in_number {
+    let Some(number) = reading.number else {
         return reading;
-    }
+    };
     if numbers.len() <= reading.count {
         return bad(reading);
     }
-    numbers[reading.count] = reading.value;
+    numbers[reading.count] = number;
     Reading {
-        value: 0,
-        in_number: false,
+        number: None,
         count: reading.count + 1,
         ..reading
     }

@@ -21,7 +21,7 @@ pub fn is_empty(set: FixedBitSet, words: &[u64]) -> Result<bool, Refusal>
     Ok(set.length == 0)
 }
 
-// The words of the set, as a part of the lent slice: the empty part where 1 to 3 refuse.
+// The words of the set, as a part of the lent slice: the empty part where 1 to 3 refuse. The specification has the part and its number as two calls.
 pub fn as_slice(set: FixedBitSet, words: &[u64]) -> &[u64]
     ensures { slice_part result ≡ as_slice_rule set words.entry }
 {

@@ -42,7 +42,7 @@ impl FixedBitSet {
         Ok(())
     }
 
-    // How many positions of a list are out.
+    // How many positions of a list are out. No `filter` and `count`: with them a position of `insert_all` took 13.5 instructions, and so it takes 12.
     fn count_out(self, positions: &[u64]) -> usize
         ensures { result ≡ count_by (λ p. nat_le self.length p) positions.now }
     {

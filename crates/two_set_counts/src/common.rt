@@ -22,7 +22,7 @@ fn ones_joined<F: Fn(u64, u64) -> u64>(a: Checked, b: Checked, word: F) -> usize
     sum
 }
 
-// How many bits of the words that both sets have the operation sets.
+// How many bits of the words that both sets have the operation sets. A closure for each case, since a function cannot give one back.
 pub(crate) fn ones_common(a: Checked, b: Checked, operation: Operation) -> usize
     ensures { result ≡ count (min (length a.entry.words.now) (length b.entry.words.now) * 64) (λ (p : ℕ). joined operation (bit_of a.entry.words.now p) (bit_of b.entry.words.now p)) }
 {

@@ -15,7 +15,7 @@ pub struct Ones<'a> {
     pub high: usize,
 }
 
-// No `Iterator`: each step asks its questions, and a refusal has no place in an item.
+// No `Iterator`: the specification has thin steps over the step by value, and each gives what is left beside the position.
 impl<'a> Ones<'a> {
     // Asks no question: each step asks them all.
     pub fn new(set: FixedBitSet, words: &'a [u64]) -> Ones<'a>

@@ -3,7 +3,7 @@ ghost use Rattle.walks.specs.Rules.{first_part};
 
 use sets::{FixedBitSet, Part};
 
-// A position or none, and what is left of both parts after it: `one` is the record of the first part, over the first set; `two` that of the second, over the second.
+// A position or none, and what is left of both parts after it, by name, as C has them: `one` is the record of the first part, over the first set; `two` that of the second, over the second.
 #[derive(Clone, Copy)]
 pub struct PairStep {
     pub at: Option<usize>,

@@ -7,7 +7,7 @@ ghost use Rattle.walks.specs.Helpers.{chosen, row_of, tried, row_step};
 use parts::{End, Select, Step, step_selected};
 use sets::{Checked, Part};
 
-// A step of one of two parts: whether it is the second, and that part's record after it. A flag, since a step that gives none has to say of which part too.
+// A step of one of two parts: whether it is the second, and that part's record after it. A flag beside them, since callers take the position and the record whichever part it is.
 #[derive(Clone, Copy)]
 pub struct RowStep {
     pub second: bool,

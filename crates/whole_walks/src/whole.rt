@@ -13,7 +13,7 @@ use parts::{Difference, End, Intersection, Ones, Select};
 use sets::{Checked, FixedBitSet, Part, Refusal};
 use walks::{RowStep, first_part, step_rows};
 
-// Steps and answers are numbers in lent words, as the specification has them: 0 is a front step, and 2^64 - 1 an answer of none.
+// Steps and answers are numbers in lent words, as C hands them over: 0 is a front step, and 2^64 - 1 an answer of none.
 fn end_of(number: u64) -> End
     ensures { result ≡ end_of number }
 {
@@ -101,6 +101,7 @@ fn take_steps<S: Select>(
     ensures { out.new ≡ map answer_word (answers_from (chosen S.selection (members a.entry) (members b.entry)) (chosen picks.Difference (members b.entry) (members a.entry)) (map end_of steps.now) first.one first.two) ++ drop (length steps.now) out.old }
 {
     let mut records = first;
+    // By the index: nothing is known of words that an adapter of `iter_mut` writes.
     for k in 0..steps.len() {
         let end = end_of(steps[k]);
         let step = step_rows::<S, Difference>(a.words, b.words, records.one, records.two, end);

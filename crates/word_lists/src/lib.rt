@@ -1,4 +1,4 @@
-// Lists of numbers that the programs compare and cut.
+// Lists of numbers: a part of one, and whether two are the same.
 #![tactic(auto)]
 
 mod lists;

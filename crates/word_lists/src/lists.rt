@@ -8,7 +8,7 @@ pub fn same(a: &[u64], b: &[u64]) -> bool
     a == b
 }
 
-// The numbers start..end, none where the list does not have them.
+// The numbers start..end, none where the list does not have them. By tests: of `get` and `unwrap_or` the search found no proof.
 pub fn part(numbers: &[u64], start: usize, end: usize) -> &[u64]
     ensures { list_part result ≡ part_of numbers.entry start end }
 {
