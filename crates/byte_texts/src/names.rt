@@ -4,7 +4,7 @@ ghost use Rattle.byte_texts.specs.Texts.{shown_name};
 use crate::texts::Text;
 use std::marker::Model;
 
-// A name as it is shown: up to 40 of its bytes, and three dots where there are more.
+// A name as it is shown: up to 40 of its bytes, and three dots where there are more. A `Text` writes the bytes and says where they end, so an array and a length are what there is to keep.
 #[derive(Drop)]
 pub struct ShownName {
     bytes: [u8; 43],

@@ -2,7 +2,7 @@ ghost use Rattle.std.specs.Prelude.{◌≡◌, map, take};
 ghost use Rattle.byte_texts.specs.Texts.{visible, decimal, shown_text, shown_name};
 ghost use Rattle.byte_texts.specs.Growth.{Appended};
 
-// A text in a lent buffer, and where it ends. What the buffer has no room for is left out. Messages are appended piece by piece and not by `write!`: names need not be UTF-8, and std says what `write!` wrote only where it answers `Ok`, and not that it does.
+// A text in a lent buffer, and where it ends. Both fields are public, so a call may hand in any end: hence `min`, and a text that is empty is appended too, since that alone cuts an end behind the buffer. What the buffer has no room for is left out. Messages are appended piece by piece and not by `write!`: names need not be UTF-8, and std says what `write!` wrote only where it answers `Ok`, and not that it does.
 #[derive(Drop)]
 pub struct Text<'a> {
     pub out: &'a mut [u8],

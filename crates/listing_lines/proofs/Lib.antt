@@ -1,3 +1,4 @@
 pub mod LengthLaws
 pub mod LineLaws
 pub mod Examples
+pub mod OkLaws

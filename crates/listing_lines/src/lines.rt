@@ -7,7 +7,7 @@ ghost use Rattle.listing_lines.specs.Listings.{offset_of, line_of, listed};
 
 use byte_texts::Text;
 
-// On a sheet each line starts with its place and how many lines there are.
+// On a sheet each line starts with its place and how many lines there are. The theorems of specs/ are over these two fields, as `Job` has them, so no `Option` of the total.
 #[derive(Clone, Copy)]
 pub struct Places {
     pub sheet: bool,
@@ -77,8 +77,8 @@ impl<'a> Listing<'a> {
             return;
         }
         out.append(b"");
-        for k in 0..offsets.len() {
-            self.append_line(out, place + k, offsets[k]);
+        for (k, offset) in offsets.iter().enumerate() {
+            self.append_line(out, place + k, *offset);
         }
     }
 }

@@ -17,7 +17,7 @@ pub struct Page<S, R> {
     pub place: usize,
 }
 
-// How many bytes of the buffer are the next piece, and what is left then.
+// How many bytes of the buffer are the next piece, and what is left then. A length and no slice, which would keep the buffer lent while the page is kept.
 #[derive(Clone, Copy)]
 pub struct Written<S, R> {
     pub length: usize,

@@ -7,7 +7,7 @@ ghost use Rattle.listings.specs.Pages.{all_offsets, offsets_of};
 use sets::{FixedBitSet, Refusal};
 use whole_walks::{Walk, walk_count};
 
-// The words of two sets of 65,536 bits that pass questions 1 to 3.
+// The words of two sets of 65,536 bits that pass questions 1 to 3. `sets::Checked` has its length beside its words; here it is 65,536 for both.
 #[derive(Clone, Copy)]
 pub(crate) struct SetPair<'a> {
     pub words: &'a [u64],
@@ -42,6 +42,7 @@ impl<'a> SetPair<'a> {
         ensures { result ≡ length (walk_list walk (offsets_of self.entry.words.now) (offsets_of self.entry.other.now)) }
     {
         let set = FixedBitSet { length: 65536 };
+        // The count refuses no pair of sets that pass their questions, as these do.
         walk_count(set, self.words, set, self.other, walk).unwrap_or(0)
     }
 }

@@ -82,15 +82,14 @@ impl<'a> Writing<'a> {
             words: self.pair.words,
             other: self.pair.other,
         };
-        let Some(lines) = fill_walk(out, walk, listing, page.records, page.place) else {
-            return None;
-        };
+        let lines = fill_walk(out, walk, listing, page.records, page.place)?;
         Some(Written {
             length: lines.length,
             page: page_after(lines, Stage::First, after_first(self.job)),
         })
     }
 
+    // As the first ones, with the files swapped; each of the two is proved against its own stage.
     fn second_lines(self, page: Page, out: &mut [u8]) -> Option<Written>
         requires { page.stage ≡ Stage.Second }
         ensures { PieceWell self.entry.job self.entry.name.now self.entry.table.now self.entry.pair.words.now self.entry.pair.other.now page out.new (piece_of page result) }
@@ -107,9 +106,7 @@ impl<'a> Writing<'a> {
             words: self.pair.other,
             other: self.pair.words,
         };
-        let Some(lines) = fill_walk(out, walk, listing, page.records, page.place) else {
-            return None;
-        };
+        let lines = fill_walk(out, walk, listing, page.records, page.place)?;
         Some(Written {
             length: lines.length,
             page: page_after(lines, Stage::Second, Stage::Last),
@@ -135,6 +132,7 @@ impl<'a> Writing<'a> {
         append_complete(text, size);
     }
 
+    // As that of a list of pairs (pair_listings), whose page and text are other ones.
     fn last_line(self, page: Page, out: &mut [u8]) -> Option<Written>
         requires { page.stage ≡ Stage.Last }
         ensures { PieceWell self.entry.job self.entry.name.now self.entry.table.now self.entry.pair.words.now self.entry.pair.other.now page out.new (piece_of page result) }
@@ -148,8 +146,7 @@ impl<'a> Writing<'a> {
             length: text.end,
             page: Page {
                 stage: Stage::Over,
-                records: page.records,
-                place: page.place,
+                ..page
             },
         })
     }
@@ -167,15 +164,14 @@ pub fn next_piece(
 ) -> Option<Written>
     ensures { PieceRight job name.now table.now (offsets_of words.now) (offsets_of other.now) page out.new (piece_of page result) × (both_questions all_offsets words.now all_offsets other.now ≡ 0 → Able job name.now table.now (offsets_of words.now) (offsets_of other.now) page out.new → PieceSure job (offsets_of words.now) (offsets_of other.now) (piece_of page result)) }
 {
-    let Ok(pair) = SetPair::new(words, other) else {
-        return None;
-    };
+    let pair = SetPair::new(words, other).ok()?;
     let writing = Writing {
         job,
         pair,
         name,
         table,
     };
+    // The stage is asked once a piece: a page is a value that is kept between calls, so no closure can stand for it.
     match page.stage {
         Stage::First => writing.first_lines(page, out),
         Stage::Second => writing.second_lines(page, out),

@@ -1,5 +1,5 @@
 -- What the loop that fills a buffer keeps: what is written, and the lines of what is left, are the lines of the whole. Assumes nothing.
-use mathlib.Core.Path.{◌≡◌, refl, sym, ap, ap₂, subst⁻¹, ◌∙◌}
+use mathlib.Core.Path.{◌≡◌, refl, sym, ap, ap₂, subst, subst⁻¹, ◌∙◌}
 use mathlib.Core.Bool.{true, false≢true}
 use mathlib.Core.List.{List, ◌++◌, append_assoc}
 use Prim.Native.Nat.{ℕ, ◌+◌, ◌-◌, ◌≤◌, ◌<◌, min}
@@ -12,10 +12,15 @@ use Rattle.byte_texts.proofs.TextLaws.{written_same, written_room, written-whole
 use Rattle.next_many.specs.declared.answers.NextManyPair.{NextManyPair}
 use Rattle.whole_walks.specs.declared.whole.Records.{Records}
 use Rattle.sets.specs.Members.{Members}
-use Rattle.std.specs.Prelude.{None}
+use Rattle.sets.specs.declared.refusal.Refusal.{Refusal}
+use Rattle.std.specs.Prelude.{None, Some, Result}
+use Rattle.std.specs.Result.{result_ok}
+use Rattle.next_many.specs.Calls.{accepted_pair}
+use Rattle.next_many.specs.declared.answers.ManyPair.{ManyPair}
+use Rattle.listing_lines.proofs.OkLaws.{taken}
 use Rattle.whole_walks.specs.declared.walk.Walk.{Walk}
 use Rattle.listing_lines.specs.Listings.{is_missing, has_of, lacks_of, listed}
-use Rattle.listings.specs.Fills.{Asked, records_of, BatchRight, BatchSure, Sure, Filled, filled_of, FilledRight, FilledSure}
+use Rattle.listings.specs.Fills.{Asked, given_of, records_of, BatchRight, BatchSure, Sure, Filled, filled_of, FilledRight, FilledSure}
 use Rattle.listings.specs.Pages.{offsets_of, walk_left}
 use Rattle.listing_lines.specs.declared.lines.Listing.{Listing}
 use Rattle.listing_lines.proofs.LengthLaws.{lines_most}
@@ -27,6 +32,16 @@ module _ (walk : Walk) (l : Listing) (ws vs : List ℕ) where
 
   abbrev b : Members
   b = offsets_of vs
+
+  -- a batch that is taken by `.ok()?`
+  pub taken_right : {p : Records} {place : ℕ} {t u : Text} (r : Result ManyPair Refusal) {m : ManyPair} → Some m ≡ result_ok r
+      → ((given_of p r).number ≡ 0 → BatchRight walk l a b p place t u (given_of p r)) → BatchRight walk l a b p place t u (accepted_pair m)
+  taken_right {p} {place} {t} {u} r e h =
+      subst (λ (x : Result ManyPair Refusal). (given_of p x).number ≡ 0 → BatchRight walk l a b p place t u (given_of p x)) (taken r e) h refl
+
+  pub taken_sure : {p : Records} (r : Result ManyPair Refusal) {m : ManyPair} → Some m ≡ result_ok r
+      → (Asked ws vs p → BatchSure ws vs (given_of p r)) → Asked ws vs p → BatchSure ws vs (accepted_pair m)
+  taken_sure {p} r e h = subst (λ (x : Result ManyPair Refusal). Asked ws vs p → BatchSure ws vs (given_of p x)) (taken r e) h
 
   abbrev left : Records → List ℕ
   left p = walk_left walk a b p

@@ -28,7 +28,7 @@ fn append_batch(
     Ok(many)
 }
 
-// How many bytes of the buffer are lines, what is left of the walk then, and whether that is nothing.
+// How many bytes of the buffer are lines (a length, as in `Written`), what is left of the walk then, and whether that is nothing.
 #[derive(Clone, Copy)]
 pub struct Lines {
     pub length: usize,
@@ -55,13 +55,12 @@ pub fn fill_walk(
         if 4294967296 < next {
             return None;
         }
-        let Ok(many) = append_batch(&mut text, walk, listing, left, next) else {
-            return None;
-        };
+        let many = append_batch(&mut text, walk, listing, left, next).ok()?;
         if size <= text.end {
             return None;
         }
         next += many.count;
+        // No `From`: both types are those of other crates, and this is the one place.
         left = Records {
             one: many.one,
             two: many.two,

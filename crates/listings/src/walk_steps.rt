@@ -45,6 +45,7 @@ impl<'a> FileWalk<'a> {
         let FileWalk { walk, words, other } = self;
         let Records { one, two } = records;
         let set = FixedBitSet { length: 65536 };
+        // Asked once for as many offsets as the buffer has words; each walk is another call.
         match walk {
             Walk::Ones => alone(ones_next_many(set, words, one, offsets), two),
             Walk::Intersection => alone(

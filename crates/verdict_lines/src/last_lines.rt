@@ -19,7 +19,7 @@ fn append_offsets(out: &mut Text, n: u64)
     }
 }
 
-// The last line of a list.
+// The last line of a list. That of a list of pairs (pair_listings) has another word, and a function of both words is no plainer than these lines.
 pub fn append_complete(out: &mut Text, n: u64)
     ensures { Appended out.old out.new (complete_text n) }
 {
