@@ -1,12 +1,12 @@
 -- The next 128 members of a walk, and how many there are. Assumes nothing.
-use mathlib.Core.Path.{◌≡◌, refl, sym, ap, ap₂, ◌∙◌}
+use mathlib.Core.Path.{◌≡◌, refl, sym, ap, ap₂, subst, ◌∙◌}
 use mathlib.Core.List.{List}
 use Prim.Native.Nat.{ℕ, ◌≤◌}
 use native.Mathlib.Omega.{arith}
 use lib.ListN.{length, take, drop, length-append, length-take}
 use lib.Seq.{take_at}
-use Rattle.std.specs.Prelude.{Result, Ok, Err}
-use Rattle.std.specs.Result.{result_unwrap_or}
+use Rattle.std.specs.Prelude.{Result, Ok, Err, None, IfSome}
+use Rattle.std.specs.Result.{result_ok, result_unwrap_or}
 use Rattle.word_bits.proofs.Ones.{count-le}
 use Rattle.sets.specs.Members.{Members, read}
 use Rattle.sets.specs.Questions.{questions, part_question, part_questions, both_questions}
@@ -16,6 +16,7 @@ use Rattle.sets.specs.declared.refusal.Refusal.{Refusal}
 use Rattle.sets.specs.declared.answers.Part.{Part}
 use Rattle.sets.proofs.OutcomeLaws.{given-accepted, given-number}
 use Rattle.sets.proofs.QuestionLaws.{first-yes}
+use Rattle.sets.proofs.RefusalLaws.{number_ne0}
 use Rattle.sets.proofs.RangeQuestionLaws.{part_yes}
 use Rattle.two_set_counts.specs.Lists.{ones_list}
 use Rattle.two_set_counts.proofs.ListLaws.{length-positions}
@@ -24,7 +25,9 @@ use Rattle.whole_walks.specs.Rules.{walk_count_rule}
 use Rattle.whole_walks.specs.declared.walk.Walk.TheVariants.{Ones}
 use Rattle.whole_walks.proofs.PartLists.{left_first}
 use Rattle.whole_walks.proofs.RuleLaws.{count-accepted}
+use Rattle.next_many.specs.Calls.{next_many_of}
 use Rattle.next_many.specs.Many.{Many, front_steps}
+use Rattle.next_many.specs.declared.answers.Many.{Many as ManyAnswer}
 use Rattle.next_many.specs.Rules.{ManyOutcome, many_outcome, written, ones_next_many_rule}
 use Rattle.next_many.specs.declared.answers.NextMany.{NextMany}
 use Rattle.next_many.proofs.LeftLaws.{steps_take, steps_drop, steps_asked}
@@ -103,3 +106,8 @@ module _ (ws : List ℕ) where
 
 pub first-asked : part_question all_offsets (first_part all_offsets) ≡ 0
 first-asked = part_yes all_offsets (first_part all_offsets) (omega arith) (omega arith)
+
+-- a call whose value is not taken by `.ok()?` was refused
+pub untaken : (part : Part) (r : Result ManyAnswer Refusal) → None ≡ result_ok r → (next_many_of part r).number ≡ 0 → ⊥
+untaken part (Ok m) e z = subst (λ o. IfSome o (λ _. ⊥)) e tt
+untaken part (Err d) e z = number_ne0 d z

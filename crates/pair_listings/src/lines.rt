@@ -40,18 +40,12 @@ pub(crate) fn append_pair_lines(
         return;
     }
     out.append(b"");
-    for k in 0..offsets.len() {
-        append_pair(
-            out,
-            places,
-            place + k,
-            offsets[k],
-            partner(table, offsets[k]),
-        );
+    for (k, offset) in offsets.iter().enumerate() {
+        append_pair(out, places, place + k, *offset, partner(table, *offset));
     }
 }
 
-// The last line of a list of pairs.
+// The last line of a list of pairs. That of offsets (verdict_lines) has another word, and a function of both words is no plainer than these lines.
 pub(crate) fn append_pairs_complete(out: &mut Text, n: u64)
     ensures { Appended out.old out.new (pairs_complete_text n) }
 {
@@ -64,7 +58,7 @@ pub(crate) fn append_pairs_complete(out: &mut Text, n: u64)
     }
 }
 
-// An offset of the old file that no line of the pairs names: the names of both files as they are shown, and the line that names the offset.
+// An offset of the old file that no line of the pairs names: the names of both files as they are shown, and the line that names the offset. `text_lines` writes such a start too, but is no crate that this one stands on.
 pub fn append_unpaired(out: &mut Text, old: &[u8], line: u64, offset: usize, pairs: &[u8])
     ensures { Appended out.old out.new (unpaired_text old.now line offset pairs.now) }
 {

@@ -54,6 +54,7 @@ fn mark_named(table: &[u64], p: usize, out: &mut [u64])
     }
 }
 
+// As `move_each`, with another step: a function of both would take the step and a law of what it does to `out`, and is no plainer than the loop.
 fn mark_each(table: &[u64], out: &mut [u64])
     ensures { (vs : List ℕ) → words_of 65536 ≤ length vs → out.old ≡ write vs (empty 65536)
         → out.new ≡ write vs (named_by (entry_of table.now)) }

@@ -7,7 +7,7 @@ ghost use Rattle.pair_listings.specs.Tables.{all_offsets, offsets_of};
 use sets::{FixedBitSet, Refusal};
 use whole_walks::{Walk, walk_count};
 
-// The words of a set of 65,536 bits that passes questions 1 to 3. A listing has two sets (listing_pieces), and as such a pair this one would be asked twice.
+// The words of a set of 65,536 bits that passes questions 1 to 3. `sets::Checked` has its length beside its words; here it is 65,536. A listing has two sets (listing_pieces), and as such a pair this one would be asked twice.
 #[derive(Clone, Copy)]
 pub(crate) struct Offsets<'a> {
     pub words: &'a [u64],
@@ -29,6 +29,7 @@ impl<'a> Offsets<'a> {
         ensures { result ≡ length (ones_list (offsets_of self.entry.words.now)) }
     {
         let set = FixedBitSet { length: 65536 };
+        // The count refuses no set that passes its questions, as this one does.
         walk_count(set, self.words, set, self.words, Walk::Ones).unwrap_or(0)
     }
 }

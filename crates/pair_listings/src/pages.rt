@@ -46,75 +46,77 @@ fn page_after(part: Part, place: usize, count: usize) -> Page
     }
 }
 
-// The next 128 lines, or those that are left.
-fn next_lines(
+// What is written: a job, a set, and a table of pairs.
+#[derive(Clone, Copy)]
+struct Writing<'a> {
     job: Job,
-    set: Offsets<'_>,
-    table: &[u64],
-    page: Page,
-    out: &mut [u8],
-) -> Option<Written>
-    requires { page.stage ≡ Stage.Lines }
-    ensures { PieceWell job (entry_of table.now) set.entry.words.now page out.new (piece_of page result) }
-{
-    let places = Places {
-        sheet: job.sheet,
-        total: set.size(),
-    };
-    let mut offsets = [0u64; 128];
-    let all = FixedBitSet { length: 65536 };
-    let Ok(many) = ones_next_many(all, set.words, page.records, &mut offsets) else {
-        return None;
-    };
-    if 4294967296 < page.place {
-        return None;
-    }
-    let mut text = Text::new(out);
-    append_pair_lines(&mut text, &offsets[..many.count], table, places, page.place);
-    if text.out.len() <= text.end {
-        return None;
-    }
-    Some(Written {
-        length: text.end,
-        page: page_after(many.part, page.place + many.count, many.count),
-    })
+    set: Offsets<'a>,
+    table: &'a [u64],
 }
 
-// The last line: the count alone, or that the list is complete.
-fn append_last(text: &mut Text, job: Job, set: Offsets<'_>)
-    ensures { Appended text.old text.new (last_text job (offsets_of set.entry.words.now)) }
-{
-    let total = set.size() as u64;
-    if job.count {
-        append_count(text, total);
-    } else {
-        append_pairs_complete(text, total);
+impl<'a> Writing<'a> {
+    // The next 128 lines, or those that are left.
+    fn next_lines(self, page: Page, out: &mut [u8]) -> Option<Written>
+        requires { page.stage ≡ Stage.Lines }
+        ensures { PieceWell self.entry.job (entry_of self.entry.table.now) self.entry.set.words.now page out.new (piece_of page result) }
+    {
+        let places = Places {
+            sheet: self.job.sheet,
+            total: self.set.size(),
+        };
+        let mut offsets = [0u64; 128];
+        let all = FixedBitSet { length: 65536 };
+        let many = ones_next_many(all, self.set.words, page.records, &mut offsets).ok()?;
+        if 4294967296 < page.place {
+            return None;
+        }
+        let mut text = Text::new(out);
+        append_pair_lines(
+            &mut text,
+            &offsets[..many.count],
+            self.table,
+            places,
+            page.place,
+        );
+        if text.out.len() <= text.end {
+            return None;
+        }
+        Some(Written {
+            length: text.end,
+            page: page_after(many.part, page.place + many.count, many.count),
+        })
     }
-}
 
-fn last_line(
-    job: Job,
-    set: Offsets<'_>,
-    table: &[u64],
-    page: Page,
-    out: &mut [u8],
-) -> Option<Written>
-    requires { page.stage ≡ Stage.Last }
-    ensures { PieceWell job (entry_of table.now) set.entry.words.now page out.new (piece_of page result) }
-{
-    let mut text = Text::new(out);
-    append_last(&mut text, job, set);
-    if text.out.len() <= text.end {
-        return None;
+    // The last line: the count alone, or that the list is complete.
+    fn append_last(self, text: &mut Text)
+        ensures { Appended text.old text.new (last_text self.entry.job (offsets_of self.entry.set.words.now)) }
+    {
+        let total = self.set.size() as u64;
+        if self.job.count {
+            append_count(text, total);
+        } else {
+            append_pairs_complete(text, total);
+        }
     }
-    Some(Written {
-        length: text.end,
-        page: Page {
-            stage: Stage::Over,
-            records: page.records,
-            place: page.place,
-        },
-    })
+
+    // As that of a list of offsets (listing_pieces): the page is of another type, and the text that of other words, so one function for both would need a trait for one call.
+    fn last_line(self, page: Page, out: &mut [u8]) -> Option<Written>
+        requires { page.stage ≡ Stage.Last }
+        ensures { PieceWell self.entry.job (entry_of self.entry.table.now) self.entry.set.words.now page out.new (piece_of page result) }
+    {
+        let mut text = Text::new(out);
+        self.append_last(&mut text);
+        if text.out.len() <= text.end {
+            return None;
+        }
+        Some(Written {
+            length: text.end,
+            page: Page {
+                stage: Stage::Over,
+                ..page
+            },
+        })
+    }
 }
 
 // The next piece of the pairs of a set's members, from the set and a table; none where it could not be written.
@@ -127,12 +129,12 @@ pub fn next_piece(
 ) -> Option<Written>
     ensures { PieceRight job (entry_of table.now) (offsets_of words.now) page out.new (piece_of page result) × (questions all_offsets words.now ≡ 0 → Able (offsets_of words.now) page out.new → PieceSure (offsets_of words.now) (piece_of page result)) }
 {
-    let Ok(set) = Offsets::new(words) else {
-        return None;
-    };
+    let set = Offsets::new(words).ok()?;
+    let writing = Writing { job, set, table };
+    // The stage is asked once a piece: a page is a value that is kept between calls, so no closure can stand for it.
     match page.stage {
-        Stage::Lines => next_lines(job, set, table, page, out),
-        Stage::Last => last_line(job, set, table, page, out),
+        Stage::Lines => writing.next_lines(page, out),
+        Stage::Last => writing.last_line(page, out),
         Stage::Over => Some(Written { length: 0, page }),
     }
 }

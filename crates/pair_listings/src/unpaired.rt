@@ -13,7 +13,7 @@ fn is_unpaired(words: &[u64], to: &[u64], p: usize) -> bool
     member(FixedBitSet::new(65536), words, p) && block(to, p) == 0
 }
 
-// The first member from a place on that no pair names, or none.
+// The first member from a place on that no pair names, or none. `find` is no plainer: it takes a second function with a contract of its own, as `count_all` is, and a law from that to this equation.
 pub fn first_unpaired(words: &[u64], to: &[u64], from: usize) -> Option<usize>
     ensures { result ≡ unpaired_from (entry_of to.now) (offsets_of words.now) from }
 {
