@@ -1,7 +1,6 @@
 ghost use Rattle.std.specs.Prelude.{◌≤◌};
 
 use crate::numbers::{Reading, ended, take};
-use blocks::block;
 use history::run_history;
 use sets::blocks_of;
 use whole_walks::Walk;
@@ -16,113 +15,98 @@ fn checksum(words: &[u64], blocks: usize) -> u64 {
     sum
 }
 
-// Where the fields of a line begin, and where it ends.
+// The words of both sets and the answers, which every line writes anew.
+#[derive(Drop)]
+pub struct Sets<'a> {
+    pub words: &'a mut [u64],
+    pub other: &'a mut [u64],
+    pub out: &'a mut [u64],
+}
+
+// A line's history and how it ends.
 #[derive(Clone, Copy)]
-struct Places {
-    walk: usize,
-    steps: usize,
-    a_length: usize,
-    b_length: usize,
-    count: usize,
-    answers: usize,
-    a_sum: usize,
-    b_sum: usize,
-    end: usize,
+struct History<'a> {
+    bits: [u64; 2],
+    calls: &'a [u64],
+    walk: u64,
+    steps: &'a [u64],
+    lengths: [u64; 2],
+    count: u64,
+    answers: &'a [u64],
+    sums: [u64; 2],
 }
 
-// None of the two numbers is so large that a place could overflow.
-fn places_of(calls: usize, steps: usize) -> Places
-    requires { (calls ≤ 1000) × (steps ≤ 1000) }
-{
-    let walk = 3 + 5 * calls;
-    let a_length = walk + 2 + steps;
-    let answers = a_length + 3;
-    let a_sum = answers + steps;
-    Places {
-        walk,
-        steps: walk + 2,
-        a_length,
-        b_length: a_length + 1,
-        count: a_length + 2,
+// The fields of a line's numbers; none where they are not these.
+fn history_of(numbers: &[u64]) -> Option<History<'_>> {
+    let [a_bits, b_bits, calls, rest @ ..] = numbers else {
+        return None;
+    };
+    let size = usize::try_from(*calls).ok()?.checked_mul(5)?;
+    let calls = rest.get(..size)?;
+    let [walk, steps, rest @ ..] = rest.get(size..)? else {
+        return None;
+    };
+    let size = usize::try_from(*steps).ok()?;
+    let steps = rest.get(..size)?;
+    let [a_length, b_length, count, rest @ ..] = rest.get(size..)? else {
+        return None;
+    };
+    let answers = rest.get(..size)?;
+    let [a_sum, b_sum] = rest.get(size..)? else {
+        return None;
+    };
+    Some(History {
+        bits: [*a_bits, *b_bits],
+        calls,
+        walk: *walk,
+        steps,
+        lengths: [*a_length, *b_length],
+        count: *count,
         answers,
-        a_sum,
-        b_sum: a_sum + 1,
-        end: a_sum + 2,
-    }
+        sums: [*a_sum, *b_sum],
+    })
 }
 
-// Whether the run of a line's numbers ends as the line says. A field that the line lacks reads 0, so that a line that is cut short differs.
-fn ends_alike(
-    numbers: &[u64],
-    at: Places,
-    words: &mut [u64],
-    other: &mut [u64],
-    out: &mut [u64],
-) -> bool {
-    let Ok(walk) = Walk::try_from(block(numbers, at.walk)) else {
+// Whether the run of a line's history ends as the line says.
+fn ends_alike(line: History, sets: &mut Sets) -> bool {
+    let Ok(walk) = Walk::try_from(line.walk) else {
         return false;
     };
-    let ran = run_history(
-        block(numbers, 0) as usize,
-        words,
-        block(numbers, 1) as usize,
-        other,
-        part(numbers, 3, at.walk),
-        part(numbers, 0, 0),
+    let Ok(ran) = run_history(
+        line.bits[0] as usize,
+        sets.words,
+        line.bits[1] as usize,
+        sets.other,
+        line.calls,
+        &[],
         walk,
-        part(numbers, at.steps, at.a_length),
-        out,
-    );
-    let Ok(ran) = ran else {
+        line.steps,
+        sets.out,
+    ) else {
         return false;
     };
-    let expected = [
-        block(numbers, at.a_length),
-        block(numbers, at.b_length),
-        block(numbers, at.count),
-        block(numbers, at.a_sum),
-        block(numbers, at.b_sum),
-    ];
-    let given = [
-        ran.a.length as u64,
-        ran.b.length as u64,
-        ran.count as u64,
-        checksum(words, blocks_of(ran.a.length)),
-        checksum(other, blocks_of(ran.b.length)),
-    ];
-    given == expected
-}
-
-fn agrees(numbers: &[u64], words: &mut [u64], other: &mut [u64], out: &mut [u64]) -> bool {
-    let calls = block(numbers, 2);
-    if 1000 < calls {
-        return false;
-    }
-    let steps = block(numbers, 4 + 5 * calls as usize);
-    if 1000 < steps {
-        return false;
-    }
-    let at = places_of(calls as usize, steps as usize);
-    numbers.len() == at.end
-        && ends_alike(numbers, at, words, other, out)
-        && part(out, 0, steps as usize) == part(numbers, at.answers, at.a_sum)
+    line.lengths == [ran.a.length as u64, ran.b.length as u64]
+        && line.count == ran.count as u64
+        && line.answers == part(sets.out, 0, line.steps.len())
+        && line.sums
+            == [
+                checksum(sets.words, blocks_of(ran.a.length)),
+                checksum(sets.other, blocks_of(ran.b.length)),
+            ]
 }
 
 // Whether a line's history ends as the line says; none for a line with no number, which is a comment.
-fn judged(
-    line: Reading,
-    numbers: &[u64],
-    words: &mut [u64],
-    other: &mut [u64],
-    out: &mut [u64],
-) -> Option<bool> {
+fn judged(line: Reading, numbers: &[u64], sets: &mut Sets) -> Option<bool> {
     if line.is_bad {
         return Some(false);
     }
     if line.count == 0 {
         return None;
     }
-    Some(agrees(part(numbers, 0, line.count), words, other, out))
+    match history_of(part(numbers, 0, line.count)) {
+        Some(history) => Some(ends_alike(history, sets)),
+        None => Some(false),
+    }
 }
 
 // How many histories were replayed, and how many differ.
@@ -155,14 +139,7 @@ pub struct Fed {
     pub tally: Tally,
 }
 
-pub fn feed(
-    piece: &[u8],
-    fed: Fed,
-    numbers: &mut [u64],
-    words: &mut [u64],
-    other: &mut [u64],
-    out: &mut [u64],
-) -> Fed {
+pub fn feed(piece: &[u8], fed: Fed, numbers: &mut [u64], sets: &mut Sets) -> Fed {
     let mut reading = fed.reading;
     let mut tally = fed.tally;
     for byte in piece {
@@ -172,7 +149,7 @@ pub fn feed(
         }
         let line = ended(reading, numbers);
         reading = Reading::start();
-        if let Some(agrees) = judged(line, numbers, words, other, out) {
+        if let Some(agrees) = judged(line, numbers, sets) {
             tally.count(agrees);
         }
     }

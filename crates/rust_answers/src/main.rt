@@ -4,7 +4,7 @@
 mod histories;
 mod numbers;
 
-use histories::{Fed, Tally, feed};
+use histories::{Fed, Sets, Tally, feed};
 use numbers::Reading;
 use std::io::{Print, Read};
 use std::{fs, io};
@@ -17,6 +17,11 @@ fn replay_file<F: Read>(file: &mut F) -> Tally {
     let mut words = [7u64; 1024];
     let mut other = [9u64; 1024];
     let mut out = [0u64; 64];
+    let mut sets = Sets {
+        words: &mut words,
+        other: &mut other,
+        out: &mut out,
+    };
     let mut fed = Fed {
         reading: Reading::start(),
         tally: Tally::new(),
@@ -26,14 +31,7 @@ fn replay_file<F: Read>(file: &mut F) -> Tally {
         match file.read(&mut buffer) {
             Ok(0) | Err(_) => break,
             Ok(count) => {
-                fed = feed(
-                    &buffer[..count],
-                    fed,
-                    &mut numbers,
-                    &mut words,
-                    &mut other,
-                    &mut out,
-                );
+                fed = feed(&buffer[..count], fed, &mut numbers, &mut sets);
             }
         }
     }
