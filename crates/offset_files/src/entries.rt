@@ -62,7 +62,7 @@ pub fn said_line(
     }
 }
 
-// An offset that no earlier line names: it becomes a member, and the table has its line.
+// An offset that no earlier line names: it becomes a member, and the table has its line: one lent word for each offset, since the project allocates none.
 #[tactic(auto, unfolding(text_lines::specs::Texts::more))]
 fn new_offset(reading: Reading, offset: usize, words: &mut [u64], table: &mut [u64]) -> Reading
     ensures { (f : File) (report : TextOf) → offset < 65536 → f.first offset ≡ 0

@@ -59,6 +59,13 @@ eqb_comm a b = go (yes_no (eqb a b))
     go (inl e) = let f = eqb-true a b e in rw f
     go (inr e) = rw (e, ne_eqb b a (λ f. eqb-false a b e (sym f)))
 
+-- what `strip_prefix` tests
+pub strips_as : (these text : List ℕ) → pointwise eqb (take (length these) text) these ≡ starts_with these text
+unfolding starts_with
+strips_as [] text = refl
+strips_as (p ∷ these) [] = refl
+strips_as (p ∷ these) (b ∷ text) = simp (eqb_comm b p, strips_as these text)
+
 -- a text is these bytes where it starts with them and is as long
 pub text_as : (these text : List ℕ) → pointwise eqb text these ≡ is_text these text
 unfolding is_text starts_with

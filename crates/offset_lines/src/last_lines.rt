@@ -2,7 +2,7 @@ ghost use Rattle.std.specs.Prelude.{◌≡◌};
 ghost use Rattle.offset_lines.specs.Lines.{said_number};
 ghost use Rattle.offset_lines.specs.Held.{held_said};
 
-use crate::scans::{Digits, is_text, read_digits, starts_with};
+use crate::scans::{Digits, is_text, read_digits};
 
 // What such digits say in the last line of a list, before the word for one or for many.
 #[tactic(auto, unfolding(crate::specs::Held::held_said))]
@@ -23,10 +23,7 @@ fn said_of(digits: Digits, one: &[u8], many: &[u8], word: &[u8]) -> Option<usize
 pub(crate) fn said_number(rest: &[u8], one: &[u8], many: &[u8]) -> Option<usize>
     ensures { result ≡ said_number one.now many.now rest.now }
 {
-    if !starts_with(b" ", rest) {
-        return None;
-    }
-    let text = &rest[1..];
+    let text = rest.strip_prefix(b" ".as_slice())?;
     let digits = read_digits(text, 10);
     said_of(digits, one, many, &text[digits.count..])
 }

@@ -6,9 +6,7 @@ ghost use Rattle.offset_lines.specs.declared.entry.Fault.{Fault as FaultOf};
 
 use crate::entry::{Entry, Fault};
 use crate::last_lines::said_number;
-use crate::scans::{
-    Digits, has_return, is_void, read_digits, skip_blanks, starts_with, without_return,
-};
+use crate::scans::{Digits, has_return, is_void, read_digits, skip_blanks, without_return};
 
 // A value as an offset: below 65,536.
 #[tactic(auto, unfolding(crate::specs::Held::held_offset, crate::specs::Lines::offset_of))]
@@ -49,10 +47,9 @@ fn number_text(text: &[u8], base: u8) -> Result<usize, Fault>
 fn offset_text(text: &[u8]) -> Result<usize, Fault>
     ensures { result ≡ offset_text text.now }
 {
-    if starts_with(b"0x", text) {
-        number_text(&text[2..], 16)
-    } else {
-        number_text(text, 10)
+    match text.strip_prefix(b"0x".as_slice()) {
+        Some(digits) => number_text(digits, 16),
+        None => number_text(text, 10),
     }
 }
 
@@ -81,10 +78,9 @@ fn text_of<T, F: Fn(&[u8]) -> Result<T, Fault>>(
     if !is_void(text) {
         return Ok(Entry::Item(item(text)?));
     }
-    if starts_with(b"# complete:", text) {
-        complete_text(&text[11..], one, many)
-    } else {
-        Ok(Entry::Blank)
+    match text.strip_prefix(b"# complete:".as_slice()) {
+        Some(rest) => complete_text(rest, one, many),
+        None => Ok(Entry::Blank),
     }
 }
 

@@ -51,7 +51,7 @@ pub fn skip_blanks(text: &[u8]) -> &[u8]
     &text[blanks(text)..]
 }
 
-// The value of a digit.
+// The value of a digit. `char::to_digit` requires a radix of 2 to 36, and `read_digits` takes any base.
 #[tactic(auto, unfolding(crate::specs::Lines::is_digit, crate::specs::Lines::digit_value))]
 fn digit(byte: u8, base: u8) -> Option<u8>
     ensures { result ≡ cond (is_digit base byte) (Some (digit_value byte)) None }
@@ -72,7 +72,7 @@ fn held_value(value: usize) -> Option<usize>
     (value <= 65536).then_some(value)
 }
 
-// The digits that a text starts with.
+// The digits that a text starts with. One loop counts and reads them: two chains would go through them twice.
 pub fn read_digits(text: &[u8], base: u8) -> Digits
     ensures { result ≡ record { count = length (digits_of base text.now); value = held_value (value_of base (digits_of base text.now)) } }
 {

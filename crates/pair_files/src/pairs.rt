@@ -23,7 +23,7 @@ fn name_offset(table: &mut [u64], offset: usize, word: u64)
     }
 }
 
-// A line that names a pair, each of its offsets where no earlier line names it.
+// A line that names a pair, each of its offsets where no earlier line names it: one lent word for each has line and partner, since the project allocates none.
 fn name_pair(tally: Tally, pair: Pair, to: &mut [u64], from: &mut [u64]) -> Tally
     ensures { (f : PairFile) (report : TextOf) → pair.old < 65536 → pair.new < 65536
         → HoldsPairs f tally to.old from.old report

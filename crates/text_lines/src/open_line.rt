@@ -1,7 +1,7 @@
 ghost use Rattle.std.specs.Prelude.{◌≡◌, List, [], ◌∷◌, ◌++◌, ℕ, ◌+◌, min, set, take};
 ghost use Rattle.text_lines.specs.Rests.{HoldsRest, Within};
 
-// A line that is not ended: as many of its bytes as decide what it is, and how many that are.
+// A line that is not ended: as many of its bytes as decide what it is, and how many that are. `arrayvec::ArrayVec` is not `Copy`, and a reader copies this while the whole reader is lent.
 #[derive(Clone, Copy)]
 pub struct OpenLine {
     pub bytes: [u8; 2052],
@@ -46,6 +46,6 @@ impl OpenLine {
         ensures start { result.ref_ptr ≡ self.entry.ref_ptr }
         ensures held { (rest : List ℕ) → HoldsRest rest self.now.length self.now.bytes → result.now ≡ take 2052 rest }
     {
-        &self.bytes[..self.length.min(2052)]
+        &self.bytes[..self.length]
     }
 }
