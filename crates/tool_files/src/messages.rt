@@ -74,7 +74,7 @@ pub fn tell<E: Write>(err: &mut E, start: &[u8], message: &[Fragment]) -> Result
     write_report(err, text.written())
 }
 
-// Says why something cannot be done.
+// Says why something cannot be done. No contract: `Trouble` has one value, and of a write that fails nothing is known.
 pub fn fail<E: Write>(err: &mut E, message: &[Fragment]) -> Trouble {
     let _told = tell(err, b"ERROR: ", message);
     Trouble

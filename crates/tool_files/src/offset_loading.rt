@@ -25,6 +25,7 @@ fn read_offsets<F: Read>(file: &mut F, reader: &mut OffsetReader) -> Result<(), 
     read_text(file, reader)
 }
 
+// As `load_open_pairs`, with another reader, its buffers and what is known of them; the reads and the reports are shared.
 fn load_open<F: Read, E: Write>(
     file: &mut F,
     name: &[u8],

@@ -6,6 +6,8 @@ use crate::reads::Unread;
 use std::io::Write;
 use text_lines::Tally;
 
+// The name and the error stream are two parameters of each of these: both go on to the calls of `messages`, for which a struct would be taken apart.
+
 // Why a file was not read to its end.
 pub(crate) fn tell_unread<E: Write>(name: &[u8], err: &mut E, unread: Unread) -> Trouble {
     match unread {

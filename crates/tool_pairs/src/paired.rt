@@ -16,6 +16,7 @@ fn report_members<'a>(
     pairs: &[u8],
 ) -> &'a [u8] {
     let mut report = Text::new(space);
+    // `successors` is no plainer: each start comes from the offset that was found, and the search has to end the loop too.
     let mut from = 0;
     for _ in 0..20 {
         let Some(offset) = first_unpaired(words, to, from) else {
