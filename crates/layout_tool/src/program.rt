@@ -5,10 +5,7 @@ use std::fs::OpenOptions;
 use std::io;
 use std::io::{Error, ErrorKind, Input, Write};
 use std::rt::Files;
-use tool_files::{Fragment, fail, tell};
-
-// A descriptor that is closed.
-const EBADF: i32 = 9;
+use tool_files::{EBADF, Fragment, fail, tell};
 
 // The words of the command line, each with a zero byte behind it.
 fn gather<'a, R: Env>(rt: &R, arguments: &'a mut [u8]) -> Option<&'a [u8]> {

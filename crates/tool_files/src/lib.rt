@@ -9,7 +9,7 @@ mod reads;
 mod reports;
 mod streams;
 
-pub use messages::{Fragment, Trouble, fail, incomplete, not_listed, tell, write_report};
+pub use messages::{EBADF, Fragment, Trouble, fail, incomplete, not_listed, tell, write_report};
 pub use offset_loading::load;
 pub use pair_loading::load_pairs;
 pub use streams::{write_pieces, write_whole};

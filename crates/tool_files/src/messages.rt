@@ -22,7 +22,8 @@ pub enum Fragment<'a> {
 // Errors of Linux that have a text of their own and no `ErrorKind`: that of EACCES has EPERM too. By number, since std has no names for them and a crate may not use libc.
 const EIO: i32 = 5;
 
-const EBADF: i32 = 9;
+// A descriptor that is closed.
+pub const EBADF: i32 = 9;
 
 const EACCES: i32 = 13;
 
