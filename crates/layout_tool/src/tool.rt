@@ -110,18 +110,22 @@ impl<'a, R: Files + Input, W: Write, E: Write> Tool<'a, R, W, E> {
                 Text(b" stands twice"),
             ]));
         }
-        let for_renumber = self.options.pairs || self.options.back || has_length(self.arguments);
-        match Command::try_from(name) {
-            Ok(Command::Renumber) => self.renumber(),
-            _ if for_renumber => {
-                Err(self.fail(&[Text(b"--pairs, --back and --length are for renumber alone")]))
-            }
+        let command = Command::try_from(name);
+        if command == Ok(Command::Renumber) {
+            return self.renumber();
+        }
+        if self.options.pairs || self.options.back || has_length(self.arguments) {
+            return Err(self.fail(&[Text(b"--pairs, --back and --length are for renumber alone")]));
+        }
+        match command {
             Ok(Command::Compare) => self.compare(),
             Ok(Command::List) => self.list(),
             Ok(Command::Union) => self.combine(name, Walk::Union),
             Ok(Command::Intersection) => self.combine(name, Walk::Intersection),
             Ok(Command::Difference) => self.combine(name, Walk::Difference),
             Ok(Command::SymmetricDifference) => self.combine(name, Walk::SymmetricDifference),
+            // Called twice: called once, its tables would be part of the frame of every command, and 2 MiB of stack too few.
+            Ok(Command::Renumber) => self.renumber(),
             Err(unknown) => Err(self.fail_unknown(unknown)),
         }
     }
