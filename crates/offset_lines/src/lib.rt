@@ -4,11 +4,13 @@
 
 mod entry;
 mod fault_texts;
+mod items;
 mod last_lines;
 mod lines;
 mod scans;
 
 pub use entry::{Entry, Fault};
 pub use fault_texts::fault_text;
+pub use items::Items;
 pub use lines::{offset_of, parse_by, parse_line};
 pub use scans::{Digits, is_void, read_digits, skip_blanks, starts_with};

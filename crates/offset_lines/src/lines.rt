@@ -5,6 +5,7 @@ ghost use Rattle.offset_lines.specs.Held.{held_offset, held_number};
 ghost use Rattle.offset_lines.specs.declared.entry.Fault.{Fault as FaultOf};
 
 use crate::entry::{Entry, Fault};
+use crate::items::Items;
 use crate::last_lines::said_number;
 use crate::scans::{Digits, has_return, is_void, read_digits, skip_blanks, without_return};
 
@@ -55,10 +56,10 @@ fn offset_text(text: &[u8]) -> Result<usize, Fault>
 
 // What stands behind `# complete:`.
 #[tactic(auto, unfolding(crate::specs::Lines::complete_text))]
-fn complete_text<T>(rest: &[u8], one: &[u8], many: &[u8]) -> Result<Entry<T>, Fault>
-    ensures { result ≡ complete_text one.now many.now rest.now }
+fn complete_text<T>(rest: &[u8], items: Items) -> Result<Entry<T>, Fault>
+    ensures { result ≡ complete_text items.entry.one.now items.entry.many.now rest.now }
 {
-    match said_number(rest, one, many) {
+    match said_number(rest, items) {
         Some(count) => Ok(Entry::Says(count)),
         None => Err(Fault::Damaged),
     }
@@ -67,34 +68,32 @@ fn complete_text<T>(rest: &[u8], one: &[u8], many: &[u8]) -> Result<Entry<T>, Fa
 // A text from its first byte that is not blank.
 fn text_of<T, F: Fn(&[u8]) -> Result<T, Fault>>(
     text: &[u8],
-    one: &[u8],
-    many: &[u8],
+    items: Items,
     item: F,
 ) -> Result<Entry<T>, Fault>
     requires { F.IsAlwaysCallable item }
     ensures { (item_of : List ℕ → Result T FaultOf) → ((these : List ℕ) (r : _) → FnReturnsAt F.Fn item these r → r ≡ item_of these)
-        → result ≡ text_of one.now many.now item_of text.now }
+        → result ≡ text_of items.entry.one.now items.entry.many.now item_of text.now }
 {
     if !is_void(text) {
         return Ok(Entry::Item(item(text)?));
     }
     match text.strip_prefix(b"# complete:".as_slice()) {
-        Some(rest) => complete_text(rest, one, many),
+        Some(rest) => complete_text(rest, items),
         None => Ok(Entry::Blank),
     }
 }
 
-// What a line is, from its bytes without the line feed. `item` reads what a line names, and `one` and `many` are the words for that in the last line of a list.
+// What a line is, from its bytes without the line feed. `item` reads what a line names, and `items` are the words for that.
 #[tactic(auto, unfolding(crate::specs::Lines::line_by))]
 pub fn parse_by<T, F: Fn(&[u8]) -> Result<T, Fault>>(
     line: &[u8],
-    one: &[u8],
-    many: &[u8],
+    items: Items,
     item: F,
 ) -> Result<Entry<T>, Fault>
     requires { F.IsAlwaysCallable item }
     ensures { (item_of : List ℕ → Result T FaultOf) → ((these : List ℕ) (r : _) → FnReturnsAt F.Fn item these r → r ≡ item_of these)
-        → result ≡ line_by one.now many.now item_of line.now }
+        → result ≡ line_by items.entry.one.now items.entry.many.now item_of line.now }
 {
     if 2048 < line.len() {
         return Err(Fault::TooLong);
@@ -103,12 +102,16 @@ pub fn parse_by<T, F: Fn(&[u8]) -> Result<T, Fault>>(
     if has_return(text) {
         return Err(Fault::CarriageReturn);
     }
-    text_of(skip_blanks(text), one, many, item)
+    text_of(skip_blanks(text), items, item)
 }
 
 // What a line of offsets is.
 pub fn parse_line(line: &[u8]) -> Result<Entry<usize>, Fault>
     ensures { result ≡ line_of line.now }
 {
-    parse_by(line, b" offset", b" offsets", offset_text)
+    let items = Items {
+        one: b" offset",
+        many: b" offsets",
+    };
+    parse_by(line, items, offset_text)
 }

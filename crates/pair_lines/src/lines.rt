@@ -4,7 +4,7 @@ ghost use Rattle.pair_lines.specs.Held.{held_pair};
 
 use crate::numbers::read_number;
 use crate::pair::Pair;
-use offset_lines::{Digits, Entry, Fault, is_void, offset_of, parse_by, skip_blanks};
+use offset_lines::{Digits, Entry, Fault, Items, is_void, offset_of, parse_by, skip_blanks};
 
 // The offsets of such digits.
 fn pair_of(first: Digits, second: Digits) -> Result<Pair, Fault>
@@ -38,5 +38,9 @@ fn pair_text(text: &[u8]) -> Result<Pair, Fault>
 pub fn parse_pair(line: &[u8]) -> Result<Entry<Pair>, Fault>
     ensures { result ≡ pair_line_of line.now }
 {
-    parse_by(line, b" pair", b" pairs", pair_text)
+    let items = Items {
+        one: b" pair",
+        many: b" pairs",
+    };
+    parse_by(line, items, pair_text)
 }

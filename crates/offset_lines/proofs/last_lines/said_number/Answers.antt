@@ -21,8 +21,8 @@ returns c =
     let a = c.args in
     let r = c.read_digits-digits.ensures in
     let cut = rw c.as_slice.ensures at c.in_ok-text.ensures.cases in
-    let said : List ℕ → Option ℕ = λ text. said_of a.one.now a.many.now (length (digits_of 10 text)) (value_of 10 (digits_of 10 text)) (after_digits 10 text) in
-    simp (sym (strips_as (ascii " ") a.rest.now) ∙ cut.0) (c.said_of.ensures ∙ said_is a.one.now a.many.now _ _ _ r ∙ ap said cut.1)
+    let said : List ℕ → Option ℕ = λ text. said_of a.items.one.now a.items.many.now (length (digits_of 10 text)) (value_of 10 (digits_of 10 text)) (after_digits 10 text) in
+    simp (sym (strips_as (ascii " ") a.rest.now) ∙ cut.0) (c.said_of.ensures ∙ said_is a.items.one.now a.items.many.now _ _ _ r ∙ ap said cut.1)
 
 pub returns-in_err-text : goal.returns-in_err-text
 unfolding said_number ascii
