@@ -10,7 +10,6 @@ mod lines;
 mod scans;
 
 pub use entry::{Entry, Fault};
-pub use fault_texts::fault_text;
 pub use items::Items;
 pub use lines::{offset_of, parse_by, parse_line};
 pub use scans::{Digits, is_void, read_digits, skip_blanks, starts_with};

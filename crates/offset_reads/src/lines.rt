@@ -6,7 +6,7 @@ ghost use Rattle.offset_files.specs.Holds.{HoldsFile};
 
 use byte_texts::Text;
 use offset_files::{Reading, bad_line, blank_line, offset_line, said_line};
-use offset_lines::{Entry, fault_text, parse_line};
+use offset_lines::{Entry, parse_line};
 
 // A line by what it is. `body` has as many bytes of it as decide that, and as are shown.
 pub(crate) fn take_body(
@@ -26,6 +26,6 @@ pub(crate) fn take_body(
         Ok(Entry::Blank) => blank_line(reading),
         Ok(Entry::Item(offset)) => offset_line(reading, name, body, offset, words, table, report),
         Ok(Entry::Says(count)) => said_line(reading, name, body, count, report),
-        Err(fault) => bad_line(reading, name, body, fault_text(fault), report),
+        Err(fault) => bad_line(reading, name, body, fault.text(), report),
     }
 }

@@ -6,7 +6,7 @@ ghost use Rattle.pair_files.specs.Holds.{HoldsPairs};
 
 use crate::pairs::pair_line;
 use byte_texts::Text;
-use offset_lines::{Entry, fault_text};
+use offset_lines::Entry;
 use pair_lines::parse_pair;
 use text_lines::Tally;
 
@@ -29,6 +29,6 @@ pub(crate) fn take_body(
         Ok(Entry::Blank) => tally.blank_line(),
         Ok(Entry::Item(pair)) => pair_line(tally, name, body, size, pair, to, from, report),
         Ok(Entry::Says(count)) => tally.said_line(name, body, count, b" pairs and names ", report),
-        Err(fault) => tally.bad_line(name, body, fault_text(fault), report),
+        Err(fault) => tally.bad_line(name, body, fault.text(), report),
     }
 }

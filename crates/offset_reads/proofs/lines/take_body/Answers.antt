@@ -23,4 +23,4 @@ returns-in-Ok-Says-clause-held c = λ f full e shown h.
 pub returns-in-Err-clause-held : goal.returns-in-Err-clause-held
 unfolding entry_line
 returns-in-Err-clause-held c = λ f full e shown h.
-    rw (sym e, sym c.parse_line.ensures, c.in-Err.is, sym c.fault_text.ensures) (c.bad_line.ensures.held f full _ _ shown h)
+    rw (sym e, sym c.parse_line.ensures, c.in-Err.is, sym c.text.ensures) (c.bad_line.ensures.held f full _ _ shown h)

@@ -28,5 +28,5 @@ returns-in-Ok-Says-clause-held c = λ f full e shown h.
 pub returns-in-Err-clause-held : goal.returns-in-Err-clause-held
 unfolding entry_line
 returns-in-Err-clause-held c = λ f full e shown h.
-    rw (sym e, sym c.parse_pair.ensures, c.in-Err.is, sym c.fault_text.ensures)
+    rw (sym e, sym c.parse_pair.ensures, c.in-Err.is, sym c.text.ensures)
     (line-bad h c.args.name.now full _ (c.bad_line.ensures.counted (counts_of f) full shown h.counts))
