@@ -1,5 +1,6 @@
 pub mod ManyLaws
 pub mod BufferLaws
+pub mod LowestLaws
 pub mod FillLaws
 pub mod CallLaws
 pub mod LeftLaws

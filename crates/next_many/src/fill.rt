@@ -1,4 +1,4 @@
-ghost use Rattle.std.specs.Prelude.{◌≡◌, ℕ, ◌*◌, ◌≤◌, length};
+ghost use Rattle.std.specs.Prelude.{◌≡◌, ℕ, ◌*◌, min, length};
 ghost use Rattle.sets.specs.Members.{bit_of};
 ghost use Rattle.parts.specs.Selections.{selected};
 ghost use Rattle.next_many.specs.Helpers.{fill_outcome, filled};
@@ -6,9 +6,10 @@ ghost use Rattle.next_many.specs.Helpers.{fill_outcome, filled};
 use crate::answers::Filled;
 use blocks::block;
 use parts::Select;
+use sets::blocks_of;
 use word_bits::trailing_zeros;
 
-// The selected positions of low..high, rising, into the buffer, as many as fit. `rest` is what is left of word k. High is asked of each position, so that no word but the first is cut: that is why the words are not taken by a `for`.
+// The selected positions of low..high that the words have, rising, into the buffer, as many as fit. `rest` is what is left of word k. High is asked of each position, so that no word but the first is cut: that is why the words are not taken by a `for`.
 pub(crate) fn fill<S: Select>(
     words: &[u64],
     other: &[u64],
@@ -16,16 +17,14 @@ pub(crate) fn fill<S: Select>(
     high: usize,
     out: &mut [u64],
 ) -> Filled
-    requires { high ≤ length words.now * 64 }
-    ensures { fill_outcome result out.new ≡ filled (λ (p : ℕ). selected S.selection (bit_of words.now p) (bit_of other.now p)) high 0 low out.old }
+    ensures { fill_outcome result out.new ≡ filled (λ (p : ℕ). selected S.selection (bit_of words.now p) (bit_of other.now p)) (min high (length words.now * 64)) 0 low out.old }
 {
-    if high <= low {
+    let end = blocks_of(high).min(words.len());
+    let mut k = low / 64;
+    if end <= k {
         return Filled { count: 0, low };
     }
-    let end = (high - 1) / 64 + 1;
-    let bit = low % 64;
-    let mut k = low / 64;
-    let mut rest = S::word(words[k], block(other, k)) & (u64::MAX << bit);
+    let mut rest = S::word(words[k], block(other, k)) & (u64::MAX << (low % 64));
     let mut count = 0;
     let mut low = low;
     loop {

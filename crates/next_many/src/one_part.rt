@@ -13,9 +13,15 @@ use parts::{Difference, Intersection, Ones, Select, Zeroes};
 use sets::{Checked, FixedBitSet, Part, Refusal};
 
 // What a call gives that is not refused.
-fn fill_part<S: Select>(a: Checked<'_>, b: Checked<'_>, part: Part, out: &mut [u64]) -> Many
+pub(crate) fn fill_part<S: Select>(
+    a: Checked<'_>,
+    b: Checked<'_>,
+    part: Part,
+    out: &mut [u64],
+) -> Many
     requires { part.high ≤ a.length }
-    ensures { many_outcome (accepted_many result) out.new ≡ written out.old (front_steps (length out.old) (chosen S.selection (members a.entry) (members b.entry)) part) }
+    ensures room { result.count ≤ length out.old }
+    ensures steps { many_outcome (accepted_many result) out.new ≡ written out.old (front_steps (length out.old) (chosen S.selection (members a.entry) (members b.entry)) part) }
 {
     let high = part.high;
     let filled = fill::<S>(a.words, b.words, part.low, high, out);

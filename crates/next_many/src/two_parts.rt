@@ -7,7 +7,7 @@ ghost use Rattle.next_many.specs.Calls.{next_many_pair_of};
 ghost use Rattle.next_many.specs.Rules.{many_pair_outcome, many_pair, union_next_many_rule, symmetric_difference_next_many_rule};
 
 use crate::answers::ManyPair;
-use crate::fill::fill;
+use crate::one_part::fill_part;
 use parts::{Difference, Ones, Select};
 use sets::{Checked, FixedBitSet, Part, Refusal};
 
@@ -26,20 +26,12 @@ fn fill_pair<S: Select>(
     let both = Checked::both(a, words, b, other)?;
     a.ask_part(one)?;
     b.ask_part(two)?;
-    let own = both.0.words;
-    let others = both.1.words;
-    let first = fill::<S>(own, others, one.low, one.high, out);
-    let second = fill::<Difference>(others, own, two.low, two.high, &mut out[first.count..]);
+    let first = fill_part::<S>(both.0, both.1, one, out);
+    let second = fill_part::<Difference>(both.1, both.0, two, &mut out[first.count..]);
     Ok(ManyPair {
         count: first.count + second.count,
-        one: Part {
-            low: first.low,
-            high: one.high,
-        },
-        two: Part {
-            low: second.low,
-            high: two.high,
-        },
+        one: first.part,
+        two: second.part,
     })
 }
 

@@ -1,20 +1,16 @@
 -- a turn of the inner loop takes a front step, a turn of the outer passes a word that is over.
 use Prim.Native.Nat.{◌-◌}
-use lib.ListN.{length}
-use Rattle.word_bits.specs.Digits.{row}
-use Rattle.parts.specs.Helpers.{selected_word}
-use Rattle.next_many.specs.Helpers.{filled}
 use Rattle.next_many.proofs.FillLaws.{Filling}
 use Rattle.next_many.proofs.fill.fill.Given as goal
 
 abbrev pub invariant-loop-rest-2 : goal.invariant-loop-rest-2
-invariant-loop-rest-2 g l = Filling (selected_word g.S.Select.selection l.words l.other) l.high (filled (row (selected_word g.S.Select.selection l.words l.other)) l.high l.initial.count l.initial.low l.initial.out) (length l.initial.out) l.k l.rest l.count l.low l.out
+invariant-loop-rest-2 g l = Filling g.S.Select.selection l.words l.other l.high l.fn.low l.fn.out l.k l.rest l.count l.low l.out
 
 abbrev pub decreases-loop-rest-2 : goal.decreases-loop-rest-2
 decreases-loop-rest-2 g l = l.high - l.low
 
 abbrev pub invariant-loop-rest : goal.invariant-loop-rest
-invariant-loop-rest g l = Filling (selected_word g.S.Select.selection l.words l.other) l.high (filled (row (selected_word g.S.Select.selection l.words l.other)) l.high 0 l.low-2 l.initial.out) (length l.initial.out) l.k l.rest l.count l.low l.out
+invariant-loop-rest g l = Filling g.S.Select.selection l.words l.other l.high l.fn.low l.fn.out l.k l.rest l.count l.low l.out
 
 abbrev pub decreases-loop-rest : goal.decreases-loop-rest
 decreases-loop-rest g l = l.end - l.k

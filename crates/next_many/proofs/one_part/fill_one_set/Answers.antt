@@ -24,5 +24,5 @@ pub returns : goal.returns
 returns g c =
     let a = c.args in
     given_yes _ (first-yes (sym c.in_ok-checked.ensures.number) c.in_ok-ask_part.ensures)
-    (c.fill_part.ensures
+    (c.fill_part.ensures.steps
     ∙ ap (λ (x : Members). written a.out.now (front_steps (length a.out.now) (chosen g.S.Select.selection x x) a.part)) c.in_ok-checked.ensures.same)

@@ -24,5 +24,5 @@ pub returns : goal.returns
 returns g c =
     let a = c.args in
     given_yes _ (first-yes (sym c.in_ok-both.ensures.number) c.in_ok-ask_part.ensures)
-    (c.fill_part.ensures
+    (c.fill_part.ensures.steps
     ∙ ap₂ (λ (x y : Members). written a.out.now (front_steps (length a.out.now) (chosen g.S.Select.selection x y) a.part)) c.in_ok-both.ensures.same.0 c.in_ok-both.ensures.same.1)
