@@ -14,7 +14,7 @@ use Rattle.sets.specs.Outcomes.{Outcome, given}
 use Rattle.sets.specs.Refusals.{number}
 use Rattle.sets.specs.declared.refusal.Refusal.{Refusal}
 use Rattle.sets.proofs.RefusalLaws.{number_ne0}
-use Rattle.sets.specs.Questions.{first, new_questions, both_questions}
+use Rattle.sets.specs.Questions.{new_questions, both_questions}
 use Rattle.sets.proofs.QuestionLaws.{first-both, first-yes, valid_yes}
 use Rattle.sets.proofs.ReadLaws.{write_valid}
 use Rattle.sets.proofs.WordLaws.{words_mono}
@@ -41,6 +41,10 @@ yes : {A : Type 0} {n : ℕ} (refused : ℕ → A) (accepted : A) → n ≡ 0 �
 unfolding given
 yes refused accepted e = ap (λ (m : ℕ). given m refused accepted) e
 
+-- a set that fits is made
+pub fresh : (n : ℕ) (ws : List ℕ) {x : Outcome} → new_questions n (length ws) ≡ 0 → x ≡ with_capacity_rule n ws → x.number ≡ 0
+fresh n ws z e = ap (λ (o : Outcome). o.number) (e ∙ yes _ _ z)
+
 both_yes : (s o : Members) (ws vs : List ℕ) → Sound (length ws) s → Sound (length vs) o → both_questions (set_of s) (write ws s) (set_of o) (write vs o) ≡ 0
 unfolding both_questions
 both_yes s o ws vs h k =
@@ -61,61 +65,11 @@ module _ (i : Input) (go : questions_of i ≡ 0) where
   abbrev vs : List ℕ
   vs = i.other
 
-  abbrev asked_a : ℕ
-  asked_a = new_questions i.a_bits (length ws)
-
-  abbrev asked_b : ℕ
-  asked_b = new_questions i.b_bits (length vs)
-
-  abbrev asked_out : ℕ
-  asked_out = answers_question (length i.steps) (length i.out)
-
-  passed : (asked_a ≡ 0) × (asked_b ≡ 0) × (asked_out ≡ 0)
-  passed =
-      let outer = first-both asked_a (first asked_b asked_out) go in
-      let inner = first-both asked_b asked_out outer.1 in (outer.0, inner.0, inner.1)
+  pub passed : (new_questions i.a_bits (length ws) ≡ 0) × (new_questions i.b_bits (length vs) ≡ 0) × (answers_question (length i.steps) (length i.out) ≡ 0)
+  passed = let outer = first-both _ _ go in let inner = first-both _ _ outer.1 in (outer.0, inner.0, inner.1)
 
   k : Keeps (length ws) (length vs) (fresh_sets i.a_bits i.b_bits) (state_of i)
   k = kept i.a_bits (length ws) i.b_bits (length vs) (decode_all i.positions i.calls) passed.0 passed.1
-
-  -- the calls leave the history's state
-  replayed : {x y : Outcome} {z : ReplayOutcome} → x ≡ with_capacity_rule i.a_bits ws → y ≡ with_capacity_rule i.b_bits vs
-      → z ≡ replay_rule x.set x.words y.set y.words i.calls i.positions → z ≡ stored ws vs (state_of i)
-  replayed e f g =
-      let a = empty i.a_bits in
-      let b = empty i.b_bits in
-      let sa = empty_sound i.a_bits (length ws) passed.0 in
-      let sb = empty_sound i.b_bits (length vs) passed.1 in
-      g
-      ∙ rw (
-        e,
-        f,
-        yes _ _ passed.0,
-        yes _ _ passed.1,
-        yes _ _ (both_yes a b ws vs sa sb),
-        length-write ws a sa.enough,
-        length-write vs b sb.enough,
-        read-write ws a sa.clipped,
-        read-write vs b sb.clipped,
-        write-write ws a (state_of i).a (words_mono k.a.longer) k.a.sound.enough,
-        write-write vs b (state_of i).b (words_mono k.b.longer) k.b.sound.enough,
-      ) refl
-
-  -- the walk and its count over what is stored
-  walked_over : {z : ReplayOutcome} {w : WalkOutcome} → z ≡ stored ws vs (state_of i) → w ≡ walk_rule z.a z.words z.b z.other i.walk i.steps i.out
-      → w ≡ record {
-        number = 0;
-        count = length (walk_list i.walk (state_of i).a (state_of i).b);
-        out = map answer_word (answers i.walk (state_of i).a (state_of i).b (map end_of i.steps)) ++ drop (length i.steps) i.out;
-      }
-  walked_over e f =
-      f
-      ∙ rw (
-        e,
-        yes _ _ (sym (first-yes (both_yes (state_of i).a (state_of i).b ws vs k.a.sound k.b.sound) (sym passed.2))),
-        read-write ws (state_of i).a k.a.sound.clipped,
-        read-write vs (state_of i).b k.b.sound.clipped,
-      ) refl
 
   -- what is written is read back as the answers, in the words of the steps
   abbrev given-answers : List (Option ℕ)
@@ -127,36 +81,58 @@ module _ (i : Input) (go : questions_of i ≡ 0) where
   one_each : length (map answer_word given-answers) ≡ length i.steps
   one_each = length-map given-answers answer_word ∙ demand.answered ∙ length-map i.steps end_of
 
-  -- no call says no once everything is asked
-  pub fresh_a : {x : Outcome} → x ≡ with_capacity_rule i.a_bits ws → x.number ≡ 0
-  fresh_a e = ap (λ (o : Outcome). o.number) (e ∙ yes _ _ passed.0)
+  -- the calls leave the history's state
+  module _ {x y : Outcome} {z : ReplayOutcome} (e : x ≡ with_capacity_rule i.a_bits ws) (f : y ≡ with_capacity_rule i.b_bits vs) (g : z ≡ replay_rule x.set x.words y.set y.words i.calls i.positions) where
+    replayed : z ≡ stored ws vs (state_of i)
+    replayed =
+        let a = empty i.a_bits in
+        let b = empty i.b_bits in
+        let sa = empty_sound i.a_bits (length ws) passed.0 in
+        let sb = empty_sound i.b_bits (length vs) passed.1 in
+        g
+        ∙ rw (
+          e,
+          f,
+          yes _ _ passed.0,
+          yes _ _ passed.1,
+          yes _ _ (both_yes a b ws vs sa sb),
+          length-write ws a sa.enough,
+          length-write vs b sb.enough,
+          read-write ws a sa.clipped,
+          read-write vs b sb.clipped,
+          write-write ws a (state_of i).a (words_mono k.a.longer) k.a.sound.enough,
+          write-write vs b (state_of i).b (words_mono k.b.longer) k.b.sound.enough,
+        ) refl
 
-  pub fresh_b : {y : Outcome} → y ≡ with_capacity_rule i.b_bits vs → y.number ≡ 0
-  fresh_b f = ap (λ (o : Outcome). o.number) (f ∙ yes _ _ passed.1)
+    pub calls-made : z.number ≡ 0
+    calls-made = ap (λ (v : ReplayOutcome). v.number) replayed
 
-  pub calls-made : {x y : Outcome} {z : ReplayOutcome} → x ≡ with_capacity_rule i.a_bits ws → y ≡ with_capacity_rule i.b_bits vs
-      → z ≡ replay_rule x.set x.words y.set y.words i.calls i.positions → z.number ≡ 0
-  calls-made e f g = ap (λ (v : ReplayOutcome). v.number) (replayed e f g)
+    -- the walk and its count over what is stored
+    module _ {w : WalkOutcome} (h : w ≡ walk_rule z.a z.words z.b z.other i.walk i.steps i.out) where
+      walked_over : w ≡ record { number = 0; count = length (walk_list i.walk (state_of i).a (state_of i).b); out = map answer_word given-answers ++ drop (length i.steps) i.out }
+      walked_over =
+          h
+          ∙ rw (
+            replayed,
+            yes _ _ (sym (first-yes (both_yes (state_of i).a (state_of i).b ws vs k.a.sound k.b.sound) (sym passed.2))),
+            read-write ws (state_of i).a k.a.sound.clipped,
+            read-write vs (state_of i).b k.b.sound.clipped,
+          ) refl
 
-  pub walk_made : {x y : Outcome} {z : ReplayOutcome} {w : WalkOutcome} → x ≡ with_capacity_rule i.a_bits ws → y ≡ with_capacity_rule i.b_bits vs
-      → z ≡ replay_rule x.set x.words y.set y.words i.calls i.positions → w ≡ walk_rule z.a z.words z.b z.other i.walk i.steps i.out → w.number ≡ 0
-  walk_made e f g h = ap (λ (v : WalkOutcome). v.number) (walked_over (replayed e f g) h)
+      pub walk_made : w.number ≡ 0
+      walk_made = ap (λ (v : WalkOutcome). v.number) walked_over
 
-  pub accepted : {x y : Outcome} {z : ReplayOutcome} {w : WalkOutcome} → x ≡ with_capacity_rule i.a_bits ws → y ≡ with_capacity_rule i.b_bits vs
-      → z ≡ replay_rule x.set x.words y.set y.words i.calls i.positions → w ≡ walk_rule z.a z.words z.b z.other i.walk i.steps i.out
-      → Accepted i (record { number = w.number; a = z.a; words = z.words; b = z.b; other = z.other; count = w.count; out = w.out })
-  accepted e f g h =
-      let z = replayed e f g in
-      let w = walked_over z h in
-      let taken = take_at (map answer_word given-answers) (drop (length i.steps) i.out) (length i.steps) one_each in
-      let decoded = read_back given-answers (answers_below 65536 _ _ (map end_of i.steps) _ _ k.a.sound.small k.b.sound.small) in
-      record {
-        number = ap (λ (v : WalkOutcome). v.number) w;
-        first_set = (ap (λ (v : ReplayOutcome). v.a) z, ap (λ (v : ReplayOutcome). v.words) z);
-        second_set = (ap (λ (v : ReplayOutcome). v.b) z, ap (λ (v : ReplayOutcome). v.other) z);
-        walked = rw (w, taken, decoded) demand;
-        beyond = ap (λ (v : WalkOutcome). drop (length i.steps) v.out) w ∙ drop_at (map answer_word given-answers) (drop (length i.steps) i.out) (length i.steps) one_each;
-      }
+      pub accepted : Accepted i (record { number = w.number; a = z.a; words = z.words; b = z.b; other = z.other; count = w.count; out = w.out })
+      accepted =
+          let taken = take_at (map answer_word given-answers) (drop (length i.steps) i.out) (length i.steps) one_each in
+          let decoded = read_back given-answers (answers_below 65536 _ _ (map end_of i.steps) _ _ k.a.sound.small k.b.sound.small) in
+          record {
+            number = walk_made;
+            first_set = (ap (λ (v : ReplayOutcome). v.a) replayed, ap (λ (v : ReplayOutcome). v.words) replayed);
+            second_set = (ap (λ (v : ReplayOutcome). v.b) replayed, ap (λ (v : ReplayOutcome). v.other) replayed);
+            walked = rw (walked_over, taken, decoded) demand;
+            beyond = ap (λ (v : WalkOutcome). drop (length i.steps) v.out) walked_over ∙ drop_at (map answer_word given-answers) (drop (length i.steps) i.out) (length i.steps) one_each;
+          }
 
 -- a run that a question ends
 pub run_refused : (i : Input) (r : Result Run Refusal) (e : Refusal) → IsErrAnd r (λ d. d ≡ e) → number e ≡ questions_of i

@@ -1,7 +1,7 @@
 use mathlib.Core.Path.{◌≡◌, sym}
 use Rattle.sets.proofs.RefusalLaws.{number_ne0}
 use Rattle.history.specs.Runs.{Input, input_of, questions_of}
-use Rattle.history.proofs.RunLaws.{accepted, calls-made, fresh_a, fresh_b, run_refused, walk_made}
+use Rattle.history.proofs.RunLaws.{accepted, calls-made, fresh, passed, run_refused, walk_made}
 use Rattle.history.proofs.run.run_history.Goals as goal
 use Rattle.history.proofs.run.run_history.Goals.{In_ok-check_run}
 
@@ -18,12 +18,12 @@ returns-in_err-check_run c = run_refused _ _ _ c.from_residual.ensures.1 c.in_er
 pub returns-in_err-fresh_a : goal.returns-in_err-fresh_a
 returns-in_err-fresh_a c =
     let start = (goal.at.returns-in_err-fresh_a c).In_ok-check_run in
-    absurd (number_ne0 _ (fresh_a (lent start) (asked start) c.in_err-fresh_a.ensures))
+    absurd (number_ne0 _ (fresh _ _ (passed (lent start) (asked start)).0 c.in_err-fresh_a.ensures))
 
 pub returns-in_err-fresh_b : goal.returns-in_err-fresh_b
 returns-in_err-fresh_b c =
     let start = (goal.at.returns-in_err-fresh_b c).In_ok-check_run in
-    absurd (number_ne0 _ (fresh_b (lent start) (asked start) c.in_err-fresh_b.ensures))
+    absurd (number_ne0 _ (fresh _ _ (passed (lent start) (asked start)).1 c.in_err-fresh_b.ensures))
 
 pub returns-in_err-a : goal.returns-in_err-a
 returns-in_err-a c =
