@@ -1,5 +1,5 @@
 use crate::arguments::{Word, Words};
-use offset_lines::read_digits;
+use offset_lines::read_number;
 
 // What the options ask for, and the length that is named, where exactly one is and it is a number up to 65,536.
 #[derive(Clone, Copy, Debug, PartialEq, Eq)]
@@ -50,18 +50,11 @@ pub(crate) fn has_length(text: &[u8]) -> bool {
 
 // A number up to 65,536, decimal or hexadecimal with 0x.
 fn number_of(word: &[u8]) -> Option<usize> {
-    match word.strip_prefix(b"0x".as_slice()) {
-        Some(digits) => whole_number(digits, 16),
-        None => whole_number(word, 10),
-    }
-}
-
-fn whole_number(digits: &[u8], base: u8) -> Option<usize> {
-    let read = read_digits(digits, base);
-    if read.count == 0 || read.count != digits.len() {
+    let (digits, behind) = read_number(word);
+    if digits.count == 0 || !behind.is_empty() {
         return None;
     }
-    read.value
+    digits.value
 }
 
 // The length that the command line names, where it names exactly one.

@@ -10,9 +10,9 @@ use borrow.Author.Rules.{part_to_end}
 use lib.Dec.{eqb, leb, ltb}
 use lib.ListN.{length, take, drop}
 use Rattle.std.specs.Prelude.{Some, None, Ok, Err}
-use Rattle.offset_lines.specs.declared.entry.Fault.TheVariants.{NotANumber, TooLarge}
-use Rattle.offset_lines.specs.Lines.{is_digit, digits_of, after_digits, value_of, starts_with, held_value, offset_of, number_of, said_of}
-use Rattle.offset_lines.specs.Held.{held_offset, held_number, held_said}
+use Rattle.offset_lines.specs.declared.entry.Fault.TheVariants.{TooLarge}
+use Rattle.offset_lines.specs.Lines.{is_digit, digits_of, after_digits, value_of, starts_with, held_value, offset_of, said_of}
+use Rattle.offset_lines.specs.Held.{held_offset, held_said}
 use Rattle.offset_lines.specs.declared.scans.Digits.{Digits}
 use Rattle.offset_lines.proofs.Texts.{yes_no}
 use Rattle.offset_lines.proofs.DigitLaws.{all_read}
@@ -71,13 +71,6 @@ module _ (base : ℕ) (text : List ℕ) (d : Digits) (r : d ≡ all_read base te
 
   pub rest_is : from d.count text ≡ after_digits base text
   rest_is = part_to_end text d.count ∙ ap (λ (x : Digits). drop x.count text) r ∙ after_is base text
-
-  -- what is told of the held value is told of the digits
-  pub number_is : held_number d.count d.value ≡ number_of (length (digits_of base text)) (value_of base (digits_of base text))
-  unfolding held_number number_of
-  number_is =
-      ap (λ (x : Digits). held_number x.count x.value) r
-      ∙ ap (cond (eqb (length (digits_of base text)) 0) (Err NotANumber)) (held_is (value_of base (digits_of base text)))
 
 module _ (one many : List ℕ) (base : ℕ) (text : List ℕ) (d : Digits) (r : d ≡ all_read base text) where
   pub said_is : held_said one many d.count d.value (from d.count text)

@@ -7,9 +7,11 @@ mod fault_texts;
 mod items;
 mod last_lines;
 mod lines;
+mod numbers;
 mod scans;
 
 pub use entry::{Entry, Fault};
 pub use items::Items;
 pub use lines::{offset_of, parse_by, parse_line};
-pub use scans::{Digits, is_void, read_digits, skip_blanks, starts_with};
+pub use numbers::read_number;
+pub use scans::{Digits, is_void, read_digits, skip_blanks};

@@ -1,13 +1,14 @@
 ghost use Rattle.std.specs.Prelude.{◌≡◌, ℕ, List, Result};
 ghost use Rattle.std.specs.Fn.{FnReturnsAt};
-ghost use Rattle.offset_lines.specs.Lines.{number_text, offset_text, complete_text, text_of, line_by, line_of};
+ghost use Rattle.offset_lines.specs.Lines.{offset_text, complete_text, text_of, line_by, line_of};
 ghost use Rattle.offset_lines.specs.Held.{held_offset, held_number};
 ghost use Rattle.offset_lines.specs.declared.entry.Fault.{Fault as FaultOf};
 
 use crate::entry::{Entry, Fault};
 use crate::items::Items;
 use crate::last_lines::said_number;
-use crate::scans::{Digits, has_return, is_void, read_digits, skip_blanks, without_return};
+use crate::numbers::read_number;
+use crate::scans::{Digits, has_return, is_void, skip_blanks, without_return};
 
 // A value as an offset: below 65,536.
 #[tactic(auto, unfolding(crate::specs::Held::held_offset, crate::specs::Lines::offset_of))]
@@ -32,25 +33,15 @@ fn number_of(digits: Digits) -> Result<usize, Fault>
     }
 }
 
-// A text that starts with a number.
-fn number_text(text: &[u8], base: u8) -> Result<usize, Fault>
-    ensures { result ≡ number_text base text.now }
-{
-    let digits = read_digits(text, base);
-    if is_void(skip_blanks(&text[digits.count..])) {
-        number_of(digits)
-    } else {
-        Err(Fault::NotANumber)
-    }
-}
-
 // The offset that a text names.
 fn offset_text(text: &[u8]) -> Result<usize, Fault>
     ensures { result ≡ offset_text text.now }
 {
-    match text.strip_prefix(b"0x".as_slice()) {
-        Some(digits) => number_text(digits, 16),
-        None => number_text(text, 10),
+    let (digits, behind) = read_number(text);
+    if is_void(skip_blanks(behind)) {
+        number_of(digits)
+    } else {
+        Err(Fault::NotANumber)
     }
 }
 

@@ -1,6 +1,6 @@
 ghost use Rattle.std.specs.Prelude.{Some, None, cond, ◌≡◌, ◌+◌, length};
 ghost use Rattle.std.specs.List.{take_while};
-ghost use Rattle.offset_lines.specs.Lines.{is_blank, is_digit, digit_value, drop_blanks, digits_of, value_of, starts_with, is_text, is_void, without_return, has_return, held_value};
+ghost use Rattle.offset_lines.specs.Lines.{is_blank, is_digit, digit_value, drop_blanks, digits_of, value_of, is_text, is_void, without_return, has_return, held_value};
 
 // How many digits a text starts with, and their value, where it is at most 65,536.
 #[derive(Clone, Copy)]
@@ -89,14 +89,6 @@ pub fn read_digits(text: &[u8], base: u8) -> Digits
         count,
         value: held_value(value),
     }
-}
-
-// Whether a text starts with these bytes.
-#[tactic(auto, using(crate::proofs::Texts::starts_as))]
-pub fn starts_with(these: &[u8], text: &[u8]) -> bool
-    ensures { result ≡ starts_with these.now text.now }
-{
-    text.starts_with(these)
 }
 
 // Whether a text is these bytes.

@@ -5,7 +5,8 @@ use Prim.Native.String.{String}
 use Rattle.std.specs.Prelude.{Result, Ok, Err, ℕ}
 use Rattle.byte_texts.specs.Ascii.{ascii}
 use Rattle.offset_lines.specs.Lines.{is_blank, is_digit, digit_value, drop_blanks, digits_of, after_digits, value_of, starts_with, is_text, is_void, said_of, said_number, held_value, complete_text, text_of, without_return, has_return, line_by}
-use Rattle.pair_lines.specs.Lines.{base_of, bare_of, size_of, number_of, after_number, pair_of, second_of, pair_text, pair_line_of}
+use Rattle.offset_lines.specs.Numbers.{base_of, bare_of, size_of, number_of, after_number}
+use Rattle.pair_lines.specs.Lines.{pair_of, second_of, pair_text, pair_line_of}
 use Rattle.offset_lines.specs.declared.entry.Entry.{Entry}
 use Rattle.offset_lines.specs.declared.entry.Entry.TheVariants.{Blank, Item, Says}
 use Rattle.offset_lines.specs.declared.entry.Fault.{Fault}

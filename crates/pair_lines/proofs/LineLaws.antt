@@ -12,7 +12,8 @@ use Rattle.offset_lines.specs.Lines.{drop_blanks, is_void}
 use Rattle.offset_lines.specs.declared.entry.Entry.TheVariants.{Item}
 use Rattle.offset_lines.specs.declared.entry.Fault.TheVariants.{TooLarge}
 use Rattle.offset_lines.proofs.LineLaws.{cut_line, ItemFair, fair, unfair, either_item, item_is}
-use Rattle.pair_lines.specs.Lines.{size_of, number_of, after_number, pair_of, second_of, pair_text, pair_line_of}
+use Rattle.offset_lines.specs.Numbers.{size_of, number_of, after_number}
+use Rattle.pair_lines.specs.Lines.{pair_of, second_of, pair_text, pair_line_of}
 use Rattle.pair_lines.specs.declared.pair.Pair.{Pair}
 
 pub line_cut : (n : ℕ) (line : List ℕ) → 2049 ≤ n → pair_line_of (take n line) ≡ pair_line_of line

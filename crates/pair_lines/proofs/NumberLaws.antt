@@ -1,44 +1,22 @@
--- A number at the start of a text. Assumes nothing.
-use mathlib.Core.Path.{◌≡◌, refl, sym, ap, ap₂, ◌∙◌}
+-- Two numbers in a text. Assumes nothing.
+use mathlib.Core.Path.{◌≡◌, refl, ap, ap₂, ◌∙◌}
 use mathlib.Core.Bool.{true, false, cond, ◌||◌}
 use mathlib.Core.List.{List}
 use mathlib.Core.Logic.{◌⊎◌, inl, inr}
 use Prim.Native.Nat.{ℕ}
 use borrow.Author.Tests.{leb-true, leb-false, le-ltb, lt-ltb}
 use lib.Dec.{eqb, leb, ltb}
-use borrow.Author.Rules.{part_to_end}
 use Rattle.std.specs.Prelude.{Option, Result, Ok, Err}
-use Rattle.byte_texts.specs.Ascii.{ascii}
-use Rattle.offset_lines.specs.Lines.{drop_blanks, starts_with, held_value, offset_of}
+use Rattle.offset_lines.specs.Lines.{drop_blanks, held_value, offset_of}
 use Rattle.offset_lines.specs.Held.{held_offset}
 use Rattle.offset_lines.specs.declared.entry.Fault.{Fault}
 use Rattle.offset_lines.specs.declared.entry.Fault.TheVariants.{NotTwoNumbers, TooLarge}
 use Rattle.pair_lines.specs.declared.pair.Pair.{Pair}
-use Rattle.offset_lines.specs.declared.scans.Digits.{Digits}
-use Rattle.offset_lines.proofs.DigitLaws.{all_read}
-use Rattle.offset_lines.proofs.Parts.{from, rest_is as digits_rest, held_is}
+use Rattle.offset_lines.proofs.Parts.{held_is}
 use Rattle.offset_lines.proofs.Texts.{yes_no}
-use Rattle.pair_lines.specs.Lines.{base_of, bare_of, size_of, number_of, after_number, second_of, pair_of}
+use Rattle.offset_lines.specs.Numbers.{size_of, number_of, after_number}
+use Rattle.pair_lines.specs.Lines.{second_of, pair_of}
 use Rattle.pair_lines.specs.Held.{both, held_pair}
-
--- its digits, and what stands behind them
-abbrev pub IsNumber : List ℕ → ℕ → Option ℕ → List ℕ → Type 0
-IsNumber text count value rest = (count ≡ size_of text) × (value ≡ held_value (number_of text)) × (rest ≡ after_number text)
-
-module _ (base : ℕ) (text bare : List ℕ) (d : Digits) (r : d ≡ all_read base bare) where
-  pub number_is : base_of text ≡ base → bare_of text ≡ bare → IsNumber text d.count d.value (from d.count bare)
-  unfolding size_of number_of after_number
-  number_is b e = rw (b, e) (ap (λ (x : Digits). x.count) r, ap (λ (x : Digits). x.value) r, digits_rest base bare d r)
-
-pub hex_number : (text : List ℕ) (d : Digits) → starts_with (ascii "0x") text ≡ true → d ≡ all_read 16 (from 2 text) → IsNumber text d.count d.value (from d.count (from 2 text))
-unfolding base_of bare_of
-hex_number text d s r = number_is 16 text (from 2 text) d r (rw s) (rw s (sym (part_to_end text 2)))
-
-pub decimal-number : (text : List ℕ) (d : Digits) → starts_with (ascii "0x") text ≡ false → d ≡ all_read 10 text → IsNumber text d.count d.value (from d.count text)
-unfolding base_of bare_of
-decimal-number text d s r = number_is 10 text text d r (rw s) (rw s)
-
--- ---- two numbers
 
 -- what is told of the held values is told of the values
 both_is : (v w : ℕ) → both (offset_of v) (offset_of w) ≡ cond (leb 65536 v || leb 65536 w) (Err TooLarge) (Ok (record { old = v; new = w }))

@@ -2,7 +2,6 @@
 #![tactic(auto)]
 
 mod lines;
-mod numbers;
 mod pair;
 
 pub use lines::parse_pair;

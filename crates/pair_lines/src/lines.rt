@@ -2,9 +2,10 @@ ghost use Rattle.std.specs.Prelude.{◌≡◌};
 ghost use Rattle.pair_lines.specs.Lines.{pair_text, pair_line_of};
 ghost use Rattle.pair_lines.specs.Held.{held_pair};
 
-use crate::numbers::read_number;
 use crate::pair::Pair;
-use offset_lines::{Digits, Entry, Fault, Items, is_void, offset_of, parse_by, skip_blanks};
+use offset_lines::{
+    Digits, Entry, Fault, Items, is_void, offset_of, parse_by, read_number, skip_blanks,
+};
 
 // The offsets of such digits.
 fn pair_of(first: Digits, second: Digits) -> Result<Pair, Fault>

@@ -1,15 +1,15 @@
 use mathlib.Core.Path.{sym, ap, ◌∙◌}
-use Rattle.byte_texts.specs.Ascii.{ascii}
-use Rattle.offset_lines.specs.Lines.{number_text, offset_text}
-use Rattle.offset_lines.proofs.Texts.{strips_as}
+use Rattle.offset_lines.specs.Lines.{drop_blanks, is_void}
+use Rattle.offset_lines.proofs.NumberLaws.{number_told, offset_number}
 use Rattle.offset_lines.proofs.lines.offset_text.Goals as goal
 
-pub returns-in-Some : goal.returns-in-Some
-unfolding offset_text ascii
-returns-in-Some c =
-    let cut = rw c.as_slice.ensures at c.in-Some.ensures.cases in
-    simp (sym (strips_as (ascii "0x") c.args.text.now) ∙ cut.0) (c.number_text.ensures ∙ ap (number_text 16) cut.1)
+pub returns-then-is_void : goal.returns-then-is_void
+returns-then-is_void c =
+    let n = c.read_number.ensures in
+    let s = c.skip_blanks.ensures.bytes ∙ ap drop_blanks n.2 in
+    simp (offset_number c.args.text.now, sym (ap is_void s) ∙ sym c.is_void.ensures ∙ c.if-is_void.true) (c.number_of.ensures ∙ number_told c.args.text.now _ n)
 
-pub returns-in-None : goal.returns-in-None
-unfolding offset_text ascii
-returns-in-None c = simp (sym (strips_as (ascii "0x") c.args.text.now) ∙ rw c.as_slice.ensures at c.in-None.ensures.cases) c.number_text-in-None.ensures
+pub returns-else-is_void : goal.returns-else-is_void
+returns-else-is_void c =
+    let s = c.skip_blanks.ensures.bytes ∙ ap drop_blanks c.read_number.ensures.2 in
+    simp (offset_number c.args.text.now, sym (ap is_void s) ∙ sym c.is_void.ensures ∙ c.if-is_void.false)

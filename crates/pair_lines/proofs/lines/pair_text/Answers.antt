@@ -1,6 +1,7 @@
 use mathlib.Core.Path.{sym, ap, ◌∙◌}
 use Rattle.offset_lines.specs.Lines.{held_value, is_void}
-use Rattle.pair_lines.specs.Lines.{number_of, pair_text}
+use Rattle.offset_lines.specs.Numbers.{number_of}
+use Rattle.pair_lines.specs.Lines.{pair_text}
 use Rattle.pair_lines.proofs.NumberLaws.{pair_held, pair_is, second_is, rest_is}
 use Rattle.pair_lines.proofs.lines.pair_text.Goals as goal
 
