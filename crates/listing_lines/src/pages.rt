@@ -1,4 +1,7 @@
 ghost use Rattle.std.specs.Prelude.{◌≡◌, Bool};
+ghost use Rattle.listing_lines.specs.Pieces.{piece_in};
+
+use byte_texts::Text;
 
 // Where the writing of a text stands that is written piece by piece.
 pub trait Progress {
@@ -22,4 +25,20 @@ pub struct Page<S, R> {
 pub struct Written<S, R> {
     pub length: usize,
     pub page: Page<S, R>,
+}
+
+impl<S: Copy, R: Copy> Written<S, R> {
+    // A text as a piece, where its buffer has room for more: one that fills it may be cut.
+    #[tactic(auto, unfolding(crate::specs::Pieces::piece_in))]
+    pub fn new(text: &Text, page: Page<S, R>) -> Option<Written<S, R>>
+        ensures { result ≡ piece_in text.now page }
+    {
+        if text.end < text.out.len() {
+            return Some(Written {
+                length: text.end,
+                page,
+            });
+        }
+        None
+    }
 }

@@ -1,26 +1,27 @@
 -- What is left to write on the first page is all that the command writes, and the pieces of a run are that. Assumes nothing.
 use mathlib.Core.Path.{◌≡◌, refl, sym, ap, ◌∙◌}
-use mathlib.Core.Bool.{Bool, true, false}
-use mathlib.Core.List.{List, ◌++◌, flatten, append_assoc}
-use mathlib.Core.Logic.{◌⊎◌, inl, inr}
+use mathlib.Core.Bool.{Bool, true, false, false≢true}
+use mathlib.Core.List.{List, [], ◌++◌, flatten, append_assoc}
 use Prim.Native.Nat.{ℕ, ◌+◌, ◌≤◌, ◌<◌}
-use native.Mathlib.Omega.{arith}
-use lib.ListN.{length, take, length-append}
-use lib.Seq.{length-take-le}
+use lib.ListN.{length, take}
 use Rattle.sets.specs.Members.{Members}
 use Rattle.two_set_counts.specs.Lists.{ones_list, difference_list}
 use Rattle.whole_walks.specs.Walks.{walk_list}
 use Rattle.whole_walks.specs.declared.walk.Walk.{Walk}
 use Rattle.whole_walks.specs.declared.walk.Walk.TheVariants.{Difference}
 use Rattle.listing_lines.specs.Lines.{lines_text, complete_text, verdict_text}
-use Rattle.listings.specs.Pages.{offsets_of, list_text, compare_text, job_text, first_walk, total_of, last_text, second_text, follow_text, first_text, stage_text, rest_text, first_page}
+use Rattle.listing_lines.specs.Offsets.{offsets_of}
+use Rattle.listings.specs.Pages.{list_text, compare_text, job_text, first_walk, total_of, last_text, second_text, follow_text, first_text, stage_text, rest_text, first_page}
 use Rattle.listing_pieces.specs.Pieces.{stage_number, PieceRight, work_left, Run, done, next}
 use Rattle.listings.specs.declared.jobs.Job.{Job}
 use Rattle.listing_lines.specs.declared.pages.Page.{Page}
 use Rattle.whole_walks.specs.declared.whole.Records.{Records}
 use Rattle.listing_lines.specs.Pieces.{Piece}
+use Rattle.listings.specs.Stages.{is_over}
 use Rattle.listings.specs.declared.jobs.Stage.{Stage}
+use Rattle.listings.specs.declared.jobs.Stage.TheVariants.{First, Second, Last, Over}
 use Rattle.listing_lines.proofs.LineLaws.{lines_plain}
+use Rattle.listing_lines.proofs.PieceLaws.{left_less}
 use Rattle.listing_pieces.proofs.SetLaws.{all_left}
 
 module _ (job : Job) (name other ws vs : List ℕ) where
@@ -51,6 +52,18 @@ module _ (job : Job) (name other ws vs : List ℕ) where
   pub first_is : rest_text job name other a b (first_page job) ≡ job_text job name other a b
   first_is = first_of job.walk job.sheet job.several job.compare job.count
 
+  -- ---- the last page
+
+  pub nothing_left : (page : Page Stage Records) → is_over page.stage ≡ true → rest_text job name other a b page ≡ []
+  unfolding stage_text
+  nothing_left page o = go page.stage o
+    where
+      go : (stage : Stage) → is_over stage ≡ true → stage_text stage job name other a b page.records page.place ≡ []
+      go Over o = refl
+      go First o = absurd (false≢true o)
+      go Second o = absurd (false≢true o)
+      go Last o = absurd (false≢true o)
+
   -- ---- a run
 
   pub run_is : {page : Page Stage Records} {texts : List (List ℕ)} → Run job name other a b page texts → flatten texts ≡ rest_text job name other a b page
@@ -65,13 +78,4 @@ module _ (job : Job) (name other ws vs : List ℕ) where
   -- each piece leaves less to do, so that a run ends
   pub piece_less : {page : Page Stage Records} {out : List ℕ} {r : Piece Stage Records} → PieceRight job name other a b page out r → r.whole ≡ true → 16384 ≤ length out → stage_number page.stage < 3
       → work_left job name other a b r.page < work_left job name other a b page
-  piece_less {page} {out} {r} h w m s = go (h.moves w m s)
-    where
-      sizes : r.length + length (rest_text job name other a b r.page) ≡ length (rest_text job name other a b page)
-      sizes =
-          ap (λ (k : ℕ). k + length (rest_text job name other a b r.page)) (sym (length-take-le r.length out h.fits))
-          ∙ sym (length-append (take r.length out) (rest_text job name other a b r.page)) ∙ ap length (h.text w)
-
-      go : (0 < r.length) ⊎ (stage_number page.stage < stage_number r.page.stage) → work_left job name other a b r.page < work_left job name other a b page
-      go (inl l) = omega (arith, sizes, h.later w)
-      go (inr l) = omega (arith, sizes)
+  piece_less {out = out} h w m s = left_less out _ 3 h.fits (h.text w) s (h.later w) (h.moves w m s)

@@ -8,12 +8,12 @@ use native.Mathlib.Omega.{arith}
 use lib.ListN.{length, take}
 use Rattle.byte_texts.specs.Growth.{Appended}
 use Rattle.byte_texts.specs.declared.texts.Text.{Text}
-use Rattle.byte_texts.proofs.GrowthLaws.{appended_room, appended_whole}
 use Rattle.sets.specs.Members.{Members}
 use Rattle.listing_lines.specs.Listings.{listed}
 use Rattle.whole_walks.specs.declared.walk.Walk.{Walk}
 use Rattle.listings.specs.Fills.{FilledRight}
 use Rattle.listing_lines.specs.Lines.{lines_text}
+use Rattle.listing_lines.proofs.PieceLaws.{text_fits, text_whole}
 use Rattle.listings.specs.Pages.{first_records, walk_left, last_text, stage_text, rest_text}
 use Rattle.listing_pieces.specs.Pieces.{page_after, stage_number, PieceRight}
 use Rattle.listings.specs.Fills.{Filled}
@@ -96,11 +96,9 @@ module _ (job : Job) (name other : List ℕ) (a b : Members) where
     pub last_piece : {before after : Text} {out : List ℕ} → Appended before after (last_text job name other a b) → before.end ≡ 0 → out ≡ after.out.now → page.stage ≡ Last
         → after.end < length after.out.now → PieceRight job name other a b page out (record { length = after.end; page = record { stage = Over; records = page.records; place = page.place }; whole = true })
     unfolding stage_text
-    last_piece {before} {after} {out} h z o e l = subst⁻¹ (λ (xs : List ℕ). PieceRight job name other a b page xs (record { length = after.end; page = record { stage = Over; records = page.records; place = page.place }; whole = true })) o record {
-      fits = omega arith;
-      text = λ w.
-          append-nil (take after.end after.out.now) ∙ appended_whole h z (appended_room h z l)
-          ∙ sym (ap (λ (s : Stage). stage_text s job name other a b page.records page.place) e);
+    last_piece {out = out} h z o e l = record {
+      fits = text_fits h z o l;
+      text = λ w. append-nil (take _ out) ∙ text_whole h z o l ∙ sym (ap (λ (s : Stage). stage_text s job name other a b page.records page.place) e);
       later = λ w. subst⁻¹ (λ (x : Stage). stage_number x ≤ 3) e (omega arith);
       moves = λ w m s. inr (subst⁻¹ (λ (x : Stage). stage_number x < 3) e (omega arith));
     }

@@ -16,7 +16,8 @@ use Rattle.listing_lines.specs.Lines.{lines_text}
 use Rattle.listing_lines.specs.Listings.{is_missing, has_of, lacks_of, listed}
 use Rattle.listing_lines.proofs.LineLaws.{lines_plain}
 use Rattle.listings.specs.Fills.{Sure, FilledRight, FilledSure}
-use Rattle.listings.specs.Pages.{all_offsets, first_records, offsets_of, walk_left, first_walk, total_of, last_text, second_text, follow_text, first_text, stage_text}
+use Rattle.listing_lines.specs.Offsets.{all_offsets, offsets_of}
+use Rattle.listings.specs.Pages.{first_records, walk_left, first_walk, total_of, last_text, second_text, follow_text, first_text, stage_text}
 use Rattle.listing_pieces.specs.Pieces.{MissingOf, after_first, page_after, stage_number, places_left, PieceRight, Able, PieceSure}
 use Rattle.listings.specs.Fills.{Filled}
 use Rattle.listings.specs.declared.jobs.Job.{Job}

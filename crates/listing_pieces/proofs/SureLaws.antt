@@ -2,7 +2,7 @@
 use mathlib.Core.Path.{◌≡◌, refl, ap, subst, subst⁻¹}
 use mathlib.Core.Bool.{Bool, true, false, cond}
 use mathlib.Core.List.{List}
-use Prim.Native.Nat.{ℕ, ◌+◌, ◌^◌, ◌≤◌, ◌<◌}
+use Prim.Native.Nat.{ℕ, ◌+◌, ◌^◌, ◌≤◌}
 use native.Mathlib.Omega.{arith}
 use lib.ListN.{length}
 use Rattle.sets.specs.Members.{Members}
@@ -12,12 +12,12 @@ use Rattle.whole_walks.specs.Walks.{walk_list}
 use Rattle.whole_walks.specs.declared.walk.Walk.TheVariants.{Difference}
 use Rattle.byte_texts.specs.Growth.{Appended}
 use Rattle.byte_texts.specs.declared.texts.Text.{Text}
-use Rattle.byte_texts.proofs.GrowthLaws.{appended_same, appended_end}
 use Rattle.listing_lines.specs.Lines.{count_text, complete_text, verdict_text}
 use Rattle.listing_lines.specs.Listings.{has_of, lacks_of}
 use Rattle.whole_walks.specs.declared.walk.Walk.{Walk}
 use Rattle.listings.specs.Fills.{Sure, FilledRight, FilledSure}
-use Rattle.listings.specs.Pages.{all_offsets, first_records, offsets_of, walk_left, first_walk, last_text, first_page}
+use Rattle.listing_lines.specs.Offsets.{all_offsets, offsets_of}
+use Rattle.listings.specs.Pages.{first_records, walk_left, first_walk, last_text, first_page}
 use Rattle.listing_pieces.specs.Pieces.{after_first, page_after, places_left, places_most, Ready, PieceSure}
 use Rattle.listings.specs.Fills.{Filled}
 use Rattle.listings.specs.declared.jobs.Job.{Job}
@@ -27,7 +27,9 @@ use Rattle.listings.specs.declared.jobs.Stage.{Stage}
 use Rattle.listings.specs.declared.jobs.Stage.TheVariants.{First, Second, Last, Over}
 use Rattle.listing_lines.specs.declared.lines.Listing.{Listing}
 use Rattle.listing_lines.proofs.LengthLaws.{complete_most, count_most, verdict_most}
-use Rattle.listing_pieces.proofs.SetLaws.{difference_small, all_left, first-asked, walk_small}
+use Rattle.listing_lines.proofs.PieceLaws.{short_room}
+use Rattle.listing_lines.proofs.OffsetLaws.{first-asked}
+use Rattle.listing_pieces.proofs.SetLaws.{difference_small, all_left, walk_small}
 
 -- ---- lines
 
@@ -99,9 +101,8 @@ module _ (job : Job) (ws vs : List ℕ) where
         go false true = omega (arith, count_most (length (walk_list job.walk a b)))
         go false false = omega (arith, complete_most (length (walk_list job.walk a b)))
 
-    pub last_room : {before after : Text} {out : List ℕ} → Appended before after (last_text job name other a b) → before.end ≡ 0 → out ≡ after.out.now → 16384 ≤ length out → after.end < length after.out.now
-    last_room h z o m = let e = ap length o in
-        omega (arith, e, last_short, appended_end h z (omega (arith, e, last_short, appended_same h z)))
+    pub last_room : {before after : Text} {out : List ℕ} → Appended before after (last_text job name other a b) → before.end ≡ 0 → out ≡ after.out.now → 16384 ≤ length out → length after.out.now ≤ after.end → ⊥
+    last_room h z o m n = short_room h z o (omega (arith, last_short)) m n
 
   module _ {page : Page Stage Records} (d : Ready job a b page) where
     pub last_sure : {end : ℕ} → page.stage ≡ Last → PieceSure job a b (record { length = end; page = record { stage = Over; records = page.records; place = page.place }; whole = true })

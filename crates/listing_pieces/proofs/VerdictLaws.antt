@@ -8,7 +8,7 @@ use lib.Dec.{eqb}
 use lib.ListN.{length}
 use Rattle.sets.specs.Questions.{both_questions}
 use Rattle.two_set_counts.specs.Lists.{difference_list}
-use Rattle.listings.specs.Pages.{all_offsets, offsets_of}
+use Rattle.listing_lines.specs.Offsets.{all_offsets, offsets_of}
 use Rattle.listing_pieces.specs.Verdicts.{are_same}
 
 module _ (ws vs : List ℕ) where

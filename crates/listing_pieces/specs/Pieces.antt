@@ -5,7 +5,8 @@ use Rattle.sets.specs.Questions.{part_question}
 use Rattle.two_set_counts.specs.Lists.{ones_list, difference_list}
 use Rattle.whole_walks.specs.declared.whole.Records.{Records}
 use Rattle.whole_walks.specs.declared.walk.Walk.TheVariants.{Difference}
-use Rattle.listings.specs.Pages.{all_offsets, offsets_of, first_records, walk_left, first_walk, rest_text}
+use Rattle.listing_lines.specs.Offsets.{all_offsets, offsets_of}
+use Rattle.listings.specs.Pages.{first_records, walk_left, first_walk, rest_text}
 use Rattle.listings.specs.Fills.{Filled}
 use Rattle.listing_lines.specs.Listings.{is_missing, has_of, lacks_of}
 use Rattle.listing_lines.specs.declared.lines.Missing.{Missing}

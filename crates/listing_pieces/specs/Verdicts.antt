@@ -2,7 +2,7 @@
 use Rattle.std.specs.Prelude.{Bool, ◌&&◌, List, ℕ, eqb, length}
 use Rattle.sets.specs.Questions.{both_questions}
 use Rattle.two_set_counts.specs.Lists.{difference_list}
-use Rattle.listings.specs.Pages.{all_offsets, offsets_of}
+use Rattle.listing_lines.specs.Offsets.{all_offsets, offsets_of}
 
 -- both are sets, and no offset is in one alone
 unfoldable pub are_same : List ℕ → List ℕ → Bool

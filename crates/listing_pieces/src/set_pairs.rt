@@ -2,7 +2,7 @@ ghost use Rattle.std.specs.Prelude.{◌≡◌, length, IfOk};
 ghost use Rattle.sets.specs.Questions.{both_questions};
 ghost use Rattle.sets.specs.Refusals.{number_of};
 ghost use Rattle.whole_walks.specs.Walks.{walk_list};
-ghost use Rattle.listings.specs.Pages.{all_offsets, offsets_of};
+ghost use Rattle.listing_lines.specs.Offsets.{all_offsets, offsets_of};
 
 use sets::{FixedBitSet, Refusal};
 use whole_walks::{Walk, walk_count};

@@ -2,7 +2,8 @@ ghost use Rattle.std.specs.Prelude.{◌≡◌};
 ghost use Rattle.byte_texts.specs.Growth.{Appended};
 ghost use Rattle.sets.specs.Questions.{both_questions};
 ghost use Rattle.listing_lines.specs.Pieces.{piece_of};
-ghost use Rattle.listings.specs.Pages.{all_offsets, offsets_of, total_of, last_text};
+ghost use Rattle.listing_lines.specs.Offsets.{all_offsets, offsets_of};
+ghost use Rattle.listings.specs.Pages.{total_of, last_text};
 ghost use Rattle.listing_pieces.specs.Pieces.{sizes_of, MissingOf, PieceRight, Able, PieceSure, PieceWell};
 
 use crate::pages::{after_first, first_walk, page_after};
@@ -132,23 +133,17 @@ impl<'a> Writing<'a> {
         append_complete(text, size);
     }
 
-    // As that of a list of pairs (pair_listings), whose page and text are other ones.
     fn last_line(self, page: Page, out: &mut [u8]) -> Option<Written>
         requires { page.stage ≡ Stage.Last }
         ensures { PieceWell self.entry.job self.entry.name.now self.entry.table.now self.entry.pair.words.now self.entry.pair.other.now page out.new (piece_of page result) }
     {
         let mut text = Text::new(out);
         self.append_last(&mut text);
-        if text.out.len() <= text.end {
-            return None;
-        }
-        Some(Written {
-            length: text.end,
-            page: Page {
-                stage: Stage::Over,
-                ..page
-            },
-        })
+        let over = Page {
+            stage: Stage::Over,
+            ..page
+        };
+        Written::new(&text, over)
     }
 }
 

@@ -21,7 +21,8 @@ use Rattle.listing_lines.proofs.OkLaws.{taken}
 use Rattle.whole_walks.specs.declared.walk.Walk.{Walk}
 use Rattle.listing_lines.specs.Listings.{is_missing, has_of, lacks_of, listed}
 use Rattle.listings.specs.Fills.{Asked, given_of, records_of, BatchRight, BatchSure, Sure, Filled, filled_of, FilledRight, FilledSure}
-use Rattle.listings.specs.Pages.{offsets_of, walk_left}
+use Rattle.listing_lines.specs.Offsets.{offsets_of}
+use Rattle.listings.specs.Pages.{walk_left}
 use Rattle.listing_lines.specs.declared.lines.Listing.{Listing}
 use Rattle.listing_lines.proofs.LengthLaws.{lines_most}
 use Rattle.listing_lines.proofs.LineLaws.{lines-append}

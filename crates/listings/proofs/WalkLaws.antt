@@ -2,10 +2,8 @@
 use mathlib.Core.Path.{◌≡◌, refl, sym, ap, ap₂, ◌∙◌}
 use mathlib.Core.Bool.{Bool, false}
 use mathlib.Core.List.{List, [], ◌++◌}
-use Prim.Native.Nat.{ℕ, ◌≤◌}
-use native.Mathlib.Omega.{arith}
-use lib.ListN.{length, take, drop, length-append, length-take}
-use lib.Seq.{take_at}
+use Prim.Native.Nat.{ℕ}
+use lib.ListN.{length, drop}
 use Rattle.sets.specs.Members.{Members, set_of}
 use Rattle.sets.specs.Questions.{questions, part_question, both_questions, part_questions, two_questions, pair_questions}
 use Rattle.sets.specs.declared.answers.Part.{Part}
@@ -22,9 +20,11 @@ use Rattle.next_many.specs.Rules.{ManyOutcome, written, many, ManyPairOutcome, m
 use Rattle.next_many.specs.declared.answers.NextManyPair.{NextManyPair}
 use Rattle.next_many.proofs.LeftLaws.{pairs-take, pairs-drop, pairs-asked}
 use Rattle.next_many.proofs.ManyLaws.{pairs_alone}
+use Rattle.listing_lines.proofs.TakeLaws.{Took, took}
 use Rattle.listings.specs.Fills.{Asked, records_of}
 use Rattle.whole_walks.specs.declared.whole.Records.{Records}
-use Rattle.listings.specs.Pages.{all_offsets, walk_left}
+use Rattle.listing_lines.specs.Offsets.{all_offsets}
+use Rattle.listings.specs.Pages.{walk_left}
 
 -- ---- an accepted call
 
@@ -71,10 +71,7 @@ module _ {ws vs : List ℕ} {p : Records} (h : Asked ws vs p) where
 
 module _ (walk : Walk) (a b : Members) (p : Records) where
   pub record Given (after : List ℕ) (r : NextManyPair) : Type 0 where
-    pub counted : r.count ≡ length (take 64 (walk_left walk a b p))
-    pub most : r.count ≤ 64
-    pub enough : r.count ≤ length after
-    pub offsets : take r.count after ≡ take 64 (walk_left walk a b p)
+    pub took : Took 64 (walk_left walk a b p) r.count after
     pub rest : walk_left walk a b (records_of r) ≡ drop 64 (walk_left walk a b p)
     pub again : part_question all_offsets p.one ≡ 0 → part_question all_offsets p.two ≡ 0 → (part_question all_offsets r.one ≡ 0) × (part_question all_offsets r.two ≡ 0)
 
@@ -82,10 +79,7 @@ module _ (walk : Walk) (a b : Members) (p : Records) where
       → many_pair_outcome r after ≡ written_pair out (front_pairs (length out) (first_row walk a b) (second_row walk a b) p.one p.two) → Given after r
   unfolding walk_left
   given_64 out {after} {r} n e = record {
-    counted = size;
-    most = omega (arith, size, length-take 64 left);
-    enough = long;
-    offsets = ap₂ take count (ap (λ (x : ManyPairOutcome). x.out) e) ∙ take_at m.positions (drop (length m.positions) out) (length m.positions) refl ∙ taken;
+    took = took 64 left m.positions out n (pairs-take f g (length out) p.one p.two) (ap (λ (x : ManyPairOutcome). x.count) e) (ap (λ (x : ManyPairOutcome). x.out) e);
     rest = ap₂ (λ (x y : Part). walk_left walk a b (record { one = x; two = y })) (ap (λ (x : ManyPairOutcome). x.one) e) (ap (λ (x : ManyPairOutcome). x.two) e) ∙ pairs-drop f g (length out) p.one p.two ∙ ap (λ (k : ℕ). drop k left) n;
     again = λ x y.
         let g = pairs-asked f g all_offsets all_offsets (length out) p.one p.two x y in
@@ -103,18 +97,6 @@ module _ (walk : Walk) (a b : Members) (p : Records) where
 
       m : ManyPair
       m = front_pairs (length out) f g p.one p.two
-
-      count : r.count ≡ length m.positions
-      count = ap (λ (x : ManyPairOutcome). x.count) e
-
-      taken : m.positions ≡ take 64 left
-      taken = pairs-take f g (length out) p.one p.two ∙ ap (λ (k : ℕ). take k left) n
-
-      size : r.count ≡ length (take 64 left)
-      size = count ∙ ap length taken
-
-      long : r.count ≤ length after
-      long = omega (arith, count, ap (λ (x : ManyPairOutcome). length x.out) e, length-append m.positions (drop (length m.positions) out))
 
 -- ---- from the first records on, all of the walk's list is left
 

@@ -6,7 +6,8 @@ use Rattle.sets.specs.Members.{Members}
 use Rattle.sets.specs.Questions.{part_question, both_questions}
 use Rattle.whole_walks.specs.declared.walk.Walk.{Walk}
 use Rattle.listing_lines.specs.Listings.{has_of, lacks_of, listed}
-use Rattle.listings.specs.Pages.{all_offsets, offsets_of, walk_left}
+use Rattle.listing_lines.specs.Offsets.{all_offsets, offsets_of}
+use Rattle.listings.specs.Pages.{walk_left}
 use Rattle.sets.specs.declared.refusal.Refusal.{Refusal}
 use Rattle.next_many.specs.Calls.{next_many_pair_of}
 use Rattle.next_many.specs.declared.answers.ManyPair.{ManyPair}

@@ -1,13 +1,13 @@
 -- What a command writes, from the sets of its files, their names as they are shown, and the options; and what is left of it on the way.
 use Rattle.std.specs.Prelude.{true, false, cond, List, [], ◌++◌, ℕ, ◌+◌, length}
-use Rattle.sets.specs.Members.{Members, read}
-use Rattle.sets.specs.declared.fixed_bit_set.FixedBitSet.{FixedBitSet}
+use Rattle.sets.specs.Members.{Members}
 use Rattle.two_set_counts.specs.Lists.{ones_list, difference_list}
 use Rattle.walks.specs.Rules.{first_part}
 use Rattle.whole_walks.proofs.WalkSteps.{both_left}
 use Rattle.whole_walks.specs.Walks.{walk_list, first_row, second_row}
 use Rattle.whole_walks.specs.declared.walk.Walk.{Walk}
 use Rattle.whole_walks.specs.declared.walk.Walk.TheVariants.{Difference}
+use Rattle.listing_lines.specs.Offsets.{all_offsets}
 use Rattle.listing_lines.specs.Lines.{lines_text, complete_text, count_text, verdict_text}
 use Rattle.listings.specs.declared.jobs.Job.{Job}
 use Rattle.listing_lines.specs.declared.pages.Page.{Page}
@@ -33,13 +33,6 @@ unfoldable pub job_text : Job → List ℕ → List ℕ → Members → Members 
 job_text job name other a b = cond job.compare (compare_text job name other a b) (list_text job a b)
 
 -- ---- on the way
-
--- the set of a file: 65,536 offsets
-abbrev pub all_offsets : FixedBitSet
-all_offsets = record { length = 65536 }
-
-abbrev pub offsets_of : List ℕ → Members
-offsets_of ws = read ws all_offsets
 
 -- the records before any step, and what is left of a walk at its records
 abbrev pub first_records : Records

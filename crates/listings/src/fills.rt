@@ -1,6 +1,6 @@
 ghost use Rattle.std.specs.Prelude.{◌≡◌, ◌^◌, ◌≤◌};
 ghost use Rattle.listings.specs.Fills.{Asked, given_of, BatchRight, BatchSure, Sure, filled_of, FilledRight, FilledSure};
-ghost use Rattle.listings.specs.Pages.{offsets_of};
+ghost use Rattle.listing_lines.specs.Offsets.{offsets_of};
 
 use crate::walk_steps::FileWalk;
 use byte_texts::Text;

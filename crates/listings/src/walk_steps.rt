@@ -4,7 +4,7 @@ ghost use Rattle.next_many.specs.Calls.{next_many_of, next_many_pair_of};
 ghost use Rattle.next_many.specs.Many.{front_pairs};
 ghost use Rattle.next_many.specs.Rules.{many_pair_outcome, written_pair};
 ghost use Rattle.listings.specs.Fills.{Asked, given_of};
-ghost use Rattle.listings.specs.Pages.{offsets_of};
+ghost use Rattle.listing_lines.specs.Offsets.{offsets_of};
 
 use next_many::{
     Many, ManyPair, difference_next_many, intersection_next_many, ones_next_many,

@@ -10,7 +10,8 @@ use Rattle.sets.proofs.ReadLaws.{read_clipped}
 use Rattle.edits.specs.Edits.{is_in}
 use Rattle.renumber_steps.specs.Pairs.{olds, repeats, arrives}
 use Rattle.renumber_steps.specs.declared.pair.Pair.{Pair}
-use Rattle.pair_listings.specs.Tables.{all_offsets, offsets_of, moved_by}
+use Rattle.listing_lines.specs.Offsets.{all_offsets, offsets_of}
+use Rattle.pair_listings.specs.Tables.{moved_by}
 use Rattle.pair_listing_laws.specs.Lists.{new_of, TableOf}
 use Rattle.pair_listing_laws.proofs.TableLaws.{moved-arrives}
 

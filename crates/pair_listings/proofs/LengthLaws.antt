@@ -6,9 +6,14 @@ use native.Mathlib.Omega.{arith}
 use lib.Dec.{eqb}
 use lib.ListN.{length, length-append}
 use Rattle.byte_texts.specs.Ascii.{ascii}
-use Rattle.listing_lines.proofs.LengthLaws.{most, place_most}
+use Rattle.sets.specs.Members.{Members}
+use Rattle.two_set_counts.specs.Lists.{ones_list}
+use Rattle.listing_lines.specs.Lines.{count_text}
+use Rattle.listing_lines.proofs.LengthLaws.{most, place_most, count_most}
 use Rattle.pair_listings.specs.Tables.{partner}
 use Rattle.pair_listings.specs.Lines.{pair_text, pair_lines_text, pairs_complete_text}
+use Rattle.pair_listings.specs.Pages.{last_text}
+use Rattle.pair_listings.specs.declared.jobs.Job.{Job}
 
 module _ (sheet : Bool) (total : ℕ) where
   pair_most : (place p q : ℕ) → length (pair_text sheet total place p q) ≤ 84
@@ -31,10 +36,19 @@ module _ (sheet : Bool) (total : ℕ) where
     lines-least [] place = omega arith
     lines-least (p ∷ ps) place = simp length-append (omega (arith, pair_least place p (partner table p), lines-least ps (place + 1)))
 
-pub complete_most : (n : ℕ) → length (pairs_complete_text n) ≤ 39
+complete_most : (n : ℕ) → length (pairs_complete_text n) ≤ 39
 unfolding pairs_complete_text ascii
 complete_most n = simp length-append (omega (arith, most n, go (eqb n 1)))
   where
     go : (t : Bool) → length (cond t (ascii " pair\n") (ascii " pairs\n")) ≤ 7
     go true = omega arith
     go false = omega arith
+
+-- the last line
+pub last_most : (job : Job) (s : Members) → length (last_text job s) ≤ 39
+unfolding last_text
+last_most job s = go job.count
+  where
+    go : (t : Bool) → length (cond t (count_text (length (ones_list s))) (pairs_complete_text (length (ones_list s)))) ≤ 39
+    go true = omega (arith, count_most (length (ones_list s)))
+    go false = complete_most (length (ones_list s))

@@ -15,7 +15,8 @@ use Rattle.sets.specs.Outcomes.{Outcome, edited}
 use Rattle.sets.specs.Questions.{questions, new_questions}
 use Rattle.sets.proofs.QuestionLaws.{first-yes}
 use Rattle.edits.specs.Rules.{insert_rule}
-use Rattle.pair_listings.specs.Tables.{all_offsets, offsets_of, is_named, partner, moves_to, moved_below, moved_by, move_members_rule}
+use Rattle.listing_lines.specs.Offsets.{all_offsets, offsets_of}
+use Rattle.pair_listings.specs.Tables.{is_named, partner, moves_to, moved_below, moved_by, move_members_rule}
 use Rattle.pair_listings.proofs.SetLaws.{held, written_held, write_insert}
 
 or_last : (t x : Bool) → cond t true x ≡ (x || t)

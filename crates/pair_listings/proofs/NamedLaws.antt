@@ -13,7 +13,8 @@ use Rattle.sets.specs.Members.{words_of, write, empty}
 use Rattle.sets.specs.Outcomes.{Outcome}
 use Rattle.sets.specs.Questions.{questions}
 use Rattle.edits.specs.Rules.{insert_rule}
-use Rattle.pair_listings.specs.Tables.{all_offsets, offsets_of, is_named, named_below, named_by}
+use Rattle.listing_lines.specs.Offsets.{all_offsets, offsets_of}
+use Rattle.pair_listings.specs.Tables.{is_named, named_below, named_by}
 use Rattle.pair_listings.proofs.SetLaws.{held, written_held, write_insert}
 
 module _ (table : ℕ → ℕ) where

@@ -2,13 +2,11 @@
 use mathlib.Core.Path.{◌≡◌, refl, sym, ap, ◌∙◌}
 use mathlib.Core.Bool.{Bool, true, false, false≢true}
 use mathlib.Core.List.{List, [], ◌++◌, flatten}
-use mathlib.Core.Logic.{◌⊎◌, inl, inr}
-use Prim.Native.Nat.{ℕ, ◌+◌, ◌<◌}
+use Prim.Native.Nat.{ℕ, ◌<◌}
 use native.Mathlib.Omega.{arith}
-use lib.ListN.{length, take, length-append}
-use lib.Seq.{length-take-le}
-use Rattle.sets.specs.Members.{Members}
-use Rattle.pair_listings.specs.Tables.{offsets_of}
+use lib.ListN.{length, take}
+use Rattle.sets.specs.Members.{Members, read}
+use Rattle.listing_lines.specs.Offsets.{offsets_of}
 use Rattle.pair_listings.specs.Pages.{pairs_text, lines_text, stage_text, rest_text, first_page}
 use Rattle.pair_listings.specs.Pieces.{stage_number, PieceRight, work_left, Ready, Run, done, next}
 use Rattle.listing_lines.specs.Pieces.{Piece}
@@ -18,7 +16,9 @@ use Rattle.sets.specs.declared.answers.Part.{Part}
 use Rattle.pair_listings.specs.Stages.{is_over}
 use Rattle.pair_listings.specs.declared.jobs.Stage.{Stage}
 use Rattle.pair_listings.specs.declared.jobs.Stage.TheVariants.{Lines, Last, Over}
-use Rattle.pair_listings.proofs.WalkLaws.{all_left, few, first-asked}
+use Rattle.listing_lines.proofs.PieceLaws.{left_less}
+use Rattle.listing_lines.proofs.OffsetLaws.{few, first-asked}
+use Rattle.pair_listings.proofs.WalkLaws.{all_left}
 
 module _ (job : Job) (table : ℕ → ℕ) (ws : List ℕ) where
   abbrev s : Members
@@ -34,8 +34,8 @@ module _ (job : Job) (table : ℕ → ℕ) (ws : List ℕ) where
       go sheet false = unfold first_page stage_text pairs_text lines_text in ap (lines_text (record { sheet = sheet; count = false }) table s 1) (all_left ws)
 
   pub first_ready : Ready s (first_page job)
-  unfolding first_page
-  first_ready = record { asked = first-asked; places = omega (arith, ap length (all_left ws), few ws) }
+  unfolding first_page read
+  first_ready = record { asked = first-asked; places = omega (arith, ap length (all_left ws), few s.has) }
 
   -- ---- the last page
 
@@ -61,13 +61,4 @@ module _ (job : Job) (table : ℕ → ℕ) (ws : List ℕ) where
 
   -- each piece leaves less to do, so that a run ends
   pub piece_less : {page : Page Stage Part} {out : List ℕ} {r : Piece Stage Part} → PieceRight job table s page out r → r.whole ≡ true → stage_number page.stage < 2 → work_left job table s r.page < work_left job table s page
-  piece_less {page} {out} {r} h w i = go (h.moves w i)
-    where
-      sizes : r.length + length (rest_text job table s r.page) ≡ length (rest_text job table s page)
-      sizes =
-          ap (λ (k : ℕ). k + length (rest_text job table s r.page)) (sym (length-take-le r.length out h.fits))
-          ∙ sym (length-append (take r.length out) (rest_text job table s r.page)) ∙ ap length (h.text w)
-
-      go : (0 < r.length) ⊎ (stage_number page.stage < stage_number r.page.stage) → work_left job table s r.page < work_left job table s page
-      go (inl l) = omega (arith, sizes, h.later w)
-      go (inr l) = omega (arith, sizes)
+  piece_less {out = out} h w i = left_less out _ 2 h.fits (h.text w) i (h.later w) (h.moves w i)

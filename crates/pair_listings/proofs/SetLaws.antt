@@ -22,7 +22,7 @@ use Rattle.sets.proofs.ReadLaws.{write_valid}
 use Rattle.sets.proofs.WriteLaws.{Clipped, read-write, write-write}
 use Rattle.edits.specs.Edits.{inserted}
 use Rattle.edits.specs.Rules.{insert_rule}
-use Rattle.pair_listings.specs.Tables.{all_offsets, offsets_of}
+use Rattle.listing_lines.specs.Offsets.{all_offsets, offsets_of}
 
 abbrev pub held : (ℕ → Bool) → Members
 held m = record { len = 65536; has = m }

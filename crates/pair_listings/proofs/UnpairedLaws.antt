@@ -14,7 +14,8 @@ use Rattle.std.specs.List.{range_with_len}
 use Rattle.std.proofs.lemmas.List.Sums.{sum_by-cons}
 use Rattle.parts.specs.declared.records.Step.{Step}
 use Rattle.parts.proofs.PartLaws.{front_at, front-none}
-use Rattle.pair_listings.specs.Tables.{offsets_of, is_unpaired, unpaired_from, unpaired_count}
+use Rattle.listing_lines.specs.Offsets.{offsets_of}
+use Rattle.pair_listings.specs.Tables.{is_unpaired, unpaired_from, unpaired_count}
 
 module _ (to : ℕ → ℕ) (ws : List ℕ) where
   abbrev f : ℕ → Bool

@@ -6,7 +6,7 @@ use Rattle.two_set_counts.specs.Lists.{ones_list}
 use Rattle.walks.specs.Rules.{first_part}
 use Rattle.whole_walks.proofs.PartLists.{part_left}
 use Rattle.listing_lines.specs.Lines.{count_text}
-use Rattle.pair_listings.specs.Tables.{all_offsets}
+use Rattle.listing_lines.specs.Offsets.{all_offsets}
 use Rattle.pair_listings.specs.Lines.{pair_lines_text, pairs_complete_text}
 use Rattle.pair_listings.specs.declared.jobs.Job.{Job}
 use Rattle.listing_lines.specs.declared.pages.Page.{Page}

@@ -3,7 +3,7 @@ use Rattle.std.specs.Prelude.{◌≡◌, true, cond, List, [], ◌∷◌, ◌++�
 use Rattle.sets.specs.Members.{Members}
 use Rattle.sets.specs.Questions.{part_question}
 use Rattle.sets.specs.declared.answers.Part.{Part}
-use Rattle.pair_listings.specs.Tables.{all_offsets, offsets_of}
+use Rattle.listing_lines.specs.Offsets.{all_offsets, offsets_of}
 use Rattle.pair_listings.specs.Pages.{members_left, rest_text}
 use Rattle.listing_lines.specs.Pieces.{Piece}
 use Rattle.pair_listings.specs.declared.jobs.Job.{Job}

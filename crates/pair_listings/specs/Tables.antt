@@ -1,19 +1,12 @@
 -- A table of pairs: 0 for an offset that no pair names, else a number whose remainder by 65,536 is the offset that it is paired with.
 use Rattle.std.specs.Prelude.{Bool, not, ◌&&◌, List, ℕ, ◌%◌, eqb, ltb, length, get_or}
 use Rattle.word_bits.specs.Counts.{some, count}
-use Rattle.sets.specs.Members.{Members, read, set_of, empty}
+use Rattle.sets.specs.Members.{Members, set_of, empty}
 use Rattle.sets.specs.Outcomes.{Outcome, edited}
 use Rattle.sets.specs.Questions.{first, questions, new_questions}
 use Rattle.std.specs.Prelude.{Option}
-use Rattle.sets.specs.declared.fixed_bit_set.FixedBitSet.{FixedBitSet}
 use Rattle.parts.specs.Steps.{front}
-
--- the offsets of 0 to 65,535, and a set of them from its words
-abbrev pub all_offsets : FixedBitSet
-all_offsets = record { length = 65536 }
-
-abbrev pub offsets_of : List ℕ → Members
-offsets_of ws = read ws all_offsets
+use Rattle.listing_lines.specs.Offsets.{all_offsets, offsets_of}
 
 -- the entry of an offset: past the end of the words it is 0
 abbrev pub entry_of : List ℕ → ℕ → ℕ

@@ -2,7 +2,8 @@ ghost use Rattle.std.specs.Prelude.{◌≡◌, List, ℕ, ◌+◌, ◌≤◌, �
 ghost use Rattle.sets.specs.Members.{words_of, write, set_of, empty};
 ghost use Rattle.sets.specs.Outcomes.{outcome};
 ghost use Rattle.sets.specs.Refusals.{edited_of};
-ghost use Rattle.pair_listings.specs.Tables.{offsets_of, entry_of, moved_below, moved_by, move_members_rule, named_below, named_by, named_set_rule};
+ghost use Rattle.listing_lines.specs.Offsets.{offsets_of};
+ghost use Rattle.pair_listings.specs.Tables.{entry_of, moved_below, moved_by, move_members_rule, named_below, named_by, named_set_rule};
 
 use blocks::block;
 use edits::insert;

@@ -2,7 +2,7 @@ ghost use Rattle.std.specs.Prelude.{◌≡◌, length, IfOk};
 ghost use Rattle.sets.specs.Questions.{questions};
 ghost use Rattle.sets.specs.Refusals.{number_of};
 ghost use Rattle.two_set_counts.specs.Lists.{ones_list};
-ghost use Rattle.pair_listings.specs.Tables.{all_offsets, offsets_of};
+ghost use Rattle.listing_lines.specs.Offsets.{all_offsets, offsets_of};
 
 use sets::{FixedBitSet, Refusal};
 use whole_walks::{Walk, walk_count};

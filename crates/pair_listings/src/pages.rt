@@ -1,7 +1,8 @@
 ghost use Rattle.std.specs.Prelude.{◌≡◌};
 ghost use Rattle.byte_texts.specs.Growth.{Appended};
 ghost use Rattle.sets.specs.Questions.{questions};
-ghost use Rattle.pair_listings.specs.Tables.{all_offsets, offsets_of, entry_of};
+ghost use Rattle.listing_lines.specs.Offsets.{all_offsets, offsets_of};
+ghost use Rattle.pair_listings.specs.Tables.{entry_of};
 ghost use Rattle.pair_listings.specs.Pages.{last_text, first_page};
 ghost use Rattle.listing_lines.specs.Pieces.{piece_of};
 ghost use Rattle.pair_listings.specs.Pieces.{page_after, PieceRight, Able, PieceSure, PieceWell};
@@ -78,13 +79,8 @@ impl<'a> Writing<'a> {
             places,
             page.place,
         );
-        if text.out.len() <= text.end {
-            return None;
-        }
-        Some(Written {
-            length: text.end,
-            page: page_after(many.part, page.place + many.count, many.count),
-        })
+        let next = page_after(many.part, page.place + many.count, many.count);
+        Written::new(&text, next)
     }
 
     // The last line: the count alone, or that the list is complete.
@@ -99,23 +95,17 @@ impl<'a> Writing<'a> {
         }
     }
 
-    // As that of a list of offsets (listing_pieces): the page is of another type, and the text that of other words, so one function for both would need a trait for one call.
     fn last_line(self, page: Page, out: &mut [u8]) -> Option<Written>
         requires { page.stage ≡ Stage.Last }
         ensures { PieceWell self.entry.job (entry_of self.entry.table.now) self.entry.set.words.now page out.new (piece_of page result) }
     {
         let mut text = Text::new(out);
         self.append_last(&mut text);
-        if text.out.len() <= text.end {
-            return None;
-        }
-        Some(Written {
-            length: text.end,
-            page: Page {
-                stage: Stage::Over,
-                ..page
-            },
-        })
+        let over = Page {
+            stage: Stage::Over,
+            ..page
+        };
+        Written::new(&text, over)
     }
 }
 

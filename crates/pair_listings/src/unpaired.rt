@@ -1,6 +1,7 @@
 ghost use Rattle.std.specs.Prelude.{◌≡◌, count_by};
 ghost use Rattle.std.specs.List.{range_with_len};
-ghost use Rattle.pair_listings.specs.Tables.{offsets_of, entry_of, is_unpaired, unpaired_from, unpaired_count};
+ghost use Rattle.listing_lines.specs.Offsets.{offsets_of};
+ghost use Rattle.pair_listings.specs.Tables.{entry_of, is_unpaired, unpaired_from, unpaired_count};
 
 use blocks::block;
 use sets::{FixedBitSet, member};

@@ -26,7 +26,8 @@ use Rattle.renumber_steps.proofs.PairListLaws.{arrives_in}
 use Rattle.pair_files.specs.Files.{pair_file_of}
 use Rattle.pair_files.specs.Good.{GoodPairs, has_word, names}
 use Rattle.pair_file_laws.proofs.GoodLaws.{good-file}
-use Rattle.pair_listings.specs.Tables.{all_offsets, offsets_of, entry_of, is_unpaired, unpaired_count}
+use Rattle.listing_lines.specs.Offsets.{all_offsets, offsets_of}
+use Rattle.pair_listings.specs.Tables.{entry_of, is_unpaired, unpaired_count}
 use Rattle.pair_listing_laws.specs.Lists.{TableOf}
 use Rattle.pair_listing_laws.proofs.TableLaws.{moved-arrives, members_asked, moved_list}
 use Rattle.tool_files.specs.Loading.{UsablePairs}

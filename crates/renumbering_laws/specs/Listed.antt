@@ -7,7 +7,8 @@ use Rattle.renumber_steps.specs.Pairs.{renumbered}
 use Rattle.renumber_steps.specs.Promises.{leaves}
 use Rattle.renumber_steps.specs.Rules.{renumber_questions, renumber_rule}
 use Rattle.renumber_steps.specs.declared.pair.Pair.{Pair}
-use Rattle.pair_listings.specs.Tables.{all_offsets, offsets_of, moved_by}
+use Rattle.listing_lines.specs.Offsets.{all_offsets, offsets_of}
+use Rattle.pair_listings.specs.Tables.{moved_by}
 
 -- `size` is the new length
 pub record Listed (pairs : List Pair) (size : ℕ) (to : ℕ → ℕ) (ws : List ℕ) : Type 0 where

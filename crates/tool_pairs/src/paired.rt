@@ -1,5 +1,6 @@
 ghost use Rattle.std.specs.Prelude.{◌≡◌, OnOk};
-ghost use Rattle.pair_listings.specs.Tables.{entry_of, offsets_of, unpaired_count};
+ghost use Rattle.listing_lines.specs.Offsets.{offsets_of};
+ghost use Rattle.pair_listings.specs.Tables.{entry_of, unpaired_count};
 
 use byte_texts::{ShownName, Text};
 use pair_listings::{append_unpaired, count_unpaired, first_unpaired};

@@ -1,6 +1,7 @@
 ghost use Rattle.std.specs.Prelude.{OnOk};
 ghost use Rattle.std.specs.Io.KnownBytes.{Appends};
-ghost use Rattle.pair_listings.specs.Tables.{entry_of, offsets_of};
+ghost use Rattle.listing_lines.specs.Offsets.{offsets_of};
+ghost use Rattle.pair_listings.specs.Tables.{entry_of};
 ghost use Rattle.pair_listings.specs.Pages.{pairs_text};
 
 use pair_listings::{Job, first_page, named_set, next_piece};

@@ -3,7 +3,7 @@ use mathlib.Core.Path.{refl, ap₂, ◌∙◌}
 use lib.ListN.{length}
 use Rattle.sets.proofs.RefusalLaws.{number_ne0}
 use Rattle.two_set_counts.specs.Lists.{difference_list}
-use Rattle.listings.specs.Pages.{offsets_of}
+use Rattle.listing_lines.specs.Offsets.{offsets_of}
 use Rattle.listing_pieces.proofs.VerdictLaws.{no_set, first_alone, second_decides}
 use Rattle.listing_pieces.proofs.verdicts.same_offsets.Goals as goal
 use Prim.Native.Nat.{ℕ}

@@ -4,7 +4,7 @@ use lib.ListN.{length, replicate}
 use Rattle.byte_texts.proofs.GrowthLaws.{appended_as}
 use Rattle.listing_lines.specs.Listings.{listed}
 use Rattle.next_many.specs.Calls.{accepted_pair}
-use Rattle.listings.specs.Pages.{offsets_of}
+use Rattle.listing_lines.specs.Offsets.{offsets_of}
 use Rattle.listings.proofs.WalkLaws.{Given, given_64}
 use Rattle.listings.proofs.fills.append_batch.Goals as goal
 use Rattle.listings.proofs.fills.append_batch.Goals.{In_ok-many}
@@ -21,9 +21,9 @@ returns-clause-right c =
     let g = known (goal.at.returns-clause-right c).In_ok-many in
     let a = c.args in
     λ z. record {
-      text = appended_as (c.append_lines.ensures (omega (arith, g.most, g.counted, ap length g.offsets, c.requires))) (ap (listed a.listing a.place) g.offsets);
+      text = appended_as (c.append_lines.ensures (omega (arith, g.took.most, g.took.counted, ap length g.took.offsets, c.requires))) (ap (listed a.listing a.place) g.took.offsets);
       rest = g.rest;
-      counted = g.counted;
+      counted = g.took.counted;
     }
 
 pub returns-clause-sure : goal.returns-clause-sure

@@ -5,7 +5,7 @@ use native.Mathlib.Omega.{arith}
 use lib.ListN.{length}
 use Rattle.next_many.specs.Calls.{accepted_pair}
 use Rattle.listings.specs.Fills.{records_of, BatchRight}
-use Rattle.listings.specs.Pages.{offsets_of}
+use Rattle.listing_lines.specs.Offsets.{offsets_of}
 use Rattle.listings.proofs.FillLaws.{taken_right, taken_sure, Filling, filling_more, filling_over, unfilled, sure_room, batch_most, batch_last, batch_less}
 use Rattle.listings.proofs.fills.fill_walk.Goals as goal
 use Rattle.listings.proofs.fills.fill_walk.Goals.{In_ok-many, Else-size-text}

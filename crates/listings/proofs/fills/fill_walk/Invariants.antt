@@ -1,6 +1,7 @@
 use mathlib.Core.Path.{◌≡◌}
 use lib.ListN.{length}
-use Rattle.listings.specs.Pages.{offsets_of, walk_left}
+use Rattle.listing_lines.specs.Offsets.{offsets_of}
+use Rattle.listings.specs.Pages.{walk_left}
 use Rattle.listings.proofs.FillLaws.{Filling}
 use Rattle.listings.proofs.fills.fill_walk.Given as goal
 

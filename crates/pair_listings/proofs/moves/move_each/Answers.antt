@@ -2,7 +2,8 @@ use mathlib.Core.Path.{◌≡◌, ap, ◌∙◌}
 use native.Mathlib.Omega.{arith}
 use Prim.Native.Nat.{ℕ}
 use Rattle.sets.specs.Members.{read, write}
-use Rattle.pair_listings.specs.Tables.{offsets_of, entry_of, moved_below}
+use Rattle.listing_lines.specs.Offsets.{offsets_of}
+use Rattle.pair_listings.specs.Tables.{entry_of, moved_below}
 use Rattle.pair_listings.proofs.MoveLaws.{moved_start}
 use Rattle.pair_listings.proofs.moves.move_each.Goals as goal
 

@@ -3,7 +3,8 @@ use mathlib.Core.List.{List}
 use Prim.Native.Nat.{ℕ, ◌≤◌}
 use lib.ListN.{length}
 use Rattle.sets.specs.Members.{words_of, write, empty}
-use Rattle.pair_listings.specs.Tables.{offsets_of, entry_of, moved_below}
+use Rattle.listing_lines.specs.Offsets.{offsets_of}
+use Rattle.pair_listings.specs.Tables.{entry_of, moved_below}
 use Rattle.pair_listings.proofs.moves.move_each.Given as goal
 
 abbrev pub invariant-loop-p : goal.invariant-loop-p

@@ -3,7 +3,8 @@ use Rattle.sets.specs.Questions.{questions}
 use Rattle.sets.specs.declared.fixed_bit_set.FixedBitSet.{FixedBitSet}
 use Rattle.sets.proofs.QuestionLaws.{first_no}
 use Rattle.sets.proofs.RefusalLaws.{edit_refused, number_ne0}
-use Rattle.pair_listings.specs.Tables.{offsets_of, entry_of, moved_below, moved_by}
+use Rattle.listing_lines.specs.Offsets.{offsets_of}
+use Rattle.pair_listings.specs.Tables.{entry_of, moved_below, moved_by}
 use Rattle.pair_listings.proofs.SetLaws.{made_no, made_yes}
 use Rattle.pair_listings.proofs.MoveLaws.{moved_rule}
 use Rattle.pair_listings.proofs.moves.move_members.Goals as goal

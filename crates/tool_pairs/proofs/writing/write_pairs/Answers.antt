@@ -1,6 +1,7 @@
 use mathlib.Core.Path.{sym}
 use Rattle.std.proofs.Common.{rules}
-use Rattle.pair_listings.specs.Tables.{entry_of, offsets_of}
+use Rattle.listing_lines.specs.Offsets.{offsets_of}
+use Rattle.pair_listings.specs.Tables.{entry_of}
 use Rattle.pair_listings.specs.Pages.{rest_text}
 use Rattle.pair_listings.proofs.PageLaws.{first_is, nothing_left}
 use Rattle.tool_pairs.proofs.writing.write_pairs.Goals as goal

@@ -1,5 +1,5 @@
 use mathlib.Core.Path.{◌∙◌}
-use Rattle.listing_pieces.proofs.SetLaws.{size_is}
+use Rattle.listing_lines.proofs.OffsetLaws.{size_is}
 use Rattle.listing_pieces.proofs.set_pairs.SetPair.walk_size.Goals as goal
 
 pub returns : goal.returns

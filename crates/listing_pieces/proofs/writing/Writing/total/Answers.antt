@@ -4,7 +4,8 @@ use Prim.Native.Nat.{ℕ, ◌+◌}
 use native.Mathlib.Omega.{arith}
 use lib.ListN.{length}
 use Rattle.two_set_counts.specs.Lists.{difference_list}
-use Rattle.listings.specs.Pages.{offsets_of, total_of}
+use Rattle.listing_lines.specs.Offsets.{offsets_of}
+use Rattle.listings.specs.Pages.{total_of}
 use Rattle.listing_pieces.proofs.SetLaws.{difference_small}
 use Rattle.listing_pieces.proofs.writing.Writing.total.Goals as goal
 use Rattle.listing_pieces.proofs.writing.Writing.total.Goals.{After-walk_size-then-self}

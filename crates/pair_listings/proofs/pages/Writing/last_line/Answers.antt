@@ -1,16 +1,16 @@
 use borrow.Author.Rules.{rules}
-use native.Mathlib.Omega.{arith}
+use Rattle.listing_lines.proofs.PieceLaws.{piece_by}
 use Rattle.pair_listings.specs.Tables.{entry_of}
+use Rattle.pair_listings.specs.Pieces.{PieceWell}
 use Rattle.pair_listings.proofs.PieceLaws.{no_piece, last_room, last_piece}
 use Rattle.pair_listings.proofs.pages.Writing.last_line.Goals as goal
-
-pub returns-then-text : goal.returns-then-text
-returns-then-text c =
-    let a = c.args in
-    no_piece a.self.job (entry_of a.self.table.now) a.self.set.words.now a.page
-    (λ x. omega (arith, c.if-text.true, last_room a.self.job (entry_of a.self.table.now) a.self.set.words.now a.page c.append_last.ensures c.new-text.ensures.empty (search rules) x.room))
 
 pub returns : goal.returns
 returns c =
     let a = c.args in
-    last_piece a.self.job (entry_of a.self.table.now) a.self.set.words.now a.page c.append_last.ensures c.new-text.ensures.empty (search rules) c.requires c.if-text.false
+    let table = entry_of a.self.table.now in
+    let ws = a.self.set.words.now in
+    let h = c.append_last.ensures in
+    let empty = c.new-text.ensures.empty in
+    piece_by _ c.new.ensures (PieceWell a.self.job table ws a.page _) (last_piece a.self.job table ws a.page h empty (search rules) c.requires)
+    (λ n. no_piece a.self.job table ws a.page (λ x. last_room a.self.job table ws a.page h empty (search rules) x.room n))
