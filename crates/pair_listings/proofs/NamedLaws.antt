@@ -9,12 +9,15 @@ use borrow.Author.Tests.{lt-ltb, le-ltb, ne_eqb, eqb-true, eqb-false}
 use lib.Dec.{eqb, ltb}
 use lib.ListN.{length}
 use Rattle.word_bits.proofs.Order.{lt-or-le}
-use Rattle.sets.specs.Members.{words_of, write, empty}
+use Rattle.sets.specs.Members.{words_of, write, set_of, empty}
 use Rattle.sets.specs.Outcomes.{Outcome}
-use Rattle.sets.specs.Questions.{questions}
+use Rattle.sets.specs.Questions.{questions, new_questions}
+use Rattle.sets.specs.declared.fixed_bit_set.FixedBitSet.{FixedBitSet}
+use Rattle.sets.proofs.OutcomeLaws.{given-accepted}
+use Rattle.sets.proofs.QuestionLaws.{room as room_of}
 use Rattle.edits.specs.Rules.{insert_rule}
 use Rattle.listing_lines.specs.Offsets.{all_offsets, offsets_of}
-use Rattle.pair_listings.specs.Tables.{is_named, named_below, named_by}
+use Rattle.pair_listings.specs.Tables.{is_named, named_below, named_by, named_set_rule}
 use Rattle.pair_listings.proofs.SetLaws.{held, written_held, write_insert}
 
 module _ (table : ℕ → ℕ) where
@@ -35,6 +38,14 @@ module _ (table : ℕ → ℕ) where
     pub named_held : words_of 65536 ≤ length vs → (questions all_offsets (write vs (named_by table)) ≡ 0) × (offsets_of (write vs (named_by table)) ≡ named_by table)
     unfolding named_below
     named_held room = written_held vs room (named_by table).has (named_clipped 65536 (omega arith))
+
+    -- so a call that gives it leaves words that are read so
+    pub named_read : {made : FixedBitSet} {ws : List ℕ} → ◌≡◌ {A = Outcome} (record { number = 0; set = made; words = ws }) (named_set_rule table vs) → offsets_of ws ≡ named_by table
+    named_read e =
+        let g =
+        given-accepted (λ (x : Outcome). x.number) (λ n. record { number = n; set = set_of (empty 0); words = vs })
+        (record { number = 0; set = set_of (named_by table); words = write vs (named_by table) }) (new_questions 65536 (length vs)) (λ n. refl) e refl in
+        ap (λ (x : Outcome). offsets_of x.words) g.1 ∙ (named_held (room_of 65536 (length vs) g.0).enough).1
 
     pub named_start : {out : List ℕ} → out ≡ write vs (empty 65536) → out ≡ write vs (named_below 0 table)
     unfolding named_below

@@ -1,7 +1,7 @@
 ghost use Rattle.std.specs.Prelude.{OnOk};
 ghost use Rattle.std.specs.Io.KnownBytes.{Appends};
 ghost use Rattle.listing_lines.specs.Offsets.{offsets_of};
-ghost use Rattle.pair_listings.specs.Tables.{entry_of};
+ghost use Rattle.pair_listings.specs.Tables.{entry_of, named_by};
 ghost use Rattle.pair_listings.specs.Pages.{pairs_text};
 
 use pair_listings::{Job, first_page, named_set, next_piece};
@@ -32,10 +32,12 @@ pub fn write_back<W: Write, E: Write>(
     from: &[u64],
     out: &mut W,
     err: &mut E,
-) -> Result<(), Trouble> {
+) -> Result<(), Trouble>
+    ensures { OnOk result (Appends (W.contents out.old) (W.contents out.new) (pairs_text job (entry_of from.now) (named_by (entry_of from.now)))) }
+{
     let mut named: [u64; 1024] = [0; 1024];
-    if named_set(from, &mut named).is_err() {
+    let Ok(_) = named_set(from, &mut named) else {
         return Err(not_listed(err));
-    }
+    };
     write_pairs(job, &named, from, out, err)
 }
