@@ -1,3 +1,9 @@
+ghost use Rattle.std.specs.Prelude.{OnOk, cond, []};
+ghost use Rattle.std.specs.Io.KnownBytes.{Appends};
+ghost use Rattle.byte_texts.specs.Texts.{shown_name};
+ghost use Rattle.listing_lines.specs.Offsets.{offsets_of};
+ghost use Rattle.listings.specs.Pages.{job_text};
+
 use crate::tool::{Status, Tool};
 use byte_texts::ShownName;
 use listing_pieces::{first_page, next_piece};
@@ -22,25 +28,19 @@ impl<R: Files + Input, W: Write, E: Write> Tool<'_, R, W, E> {
         job: Job,
         file: FileOffsets,
         other: FileOffsets,
-    ) -> Result<(), Trouble> {
+    ) -> Result<(), Trouble>
+        ensures { OnOk result (Appends (W.contents self.old.out.now) (W.contents self.new.out.now) (cond self.old.options.quiet [] (job_text job (shown_name file.entry.name.now) (shown_name other.entry.name.now) (offsets_of file.entry.words.now) (offsets_of other.entry.words.now)))) }
+    {
         if self.options.quiet {
             return Ok(());
         }
-        let name = ShownName::new(file.name);
-        let other_name = ShownName::new(other.name);
+        let shown = ShownName::new(file.name);
+        let other_shown = ShownName::new(other.name);
+        let name = shown.bytes();
+        let other_name = other_shown.bytes();
         write_pieces(
             first_page(job),
-            |page, buffer| {
-                next_piece(
-                    job,
-                    file.words,
-                    other.words,
-                    name.bytes(),
-                    other_name.bytes(),
-                    page,
-                    buffer,
-                )
-            },
+            |page, buffer| next_piece(job, file.words, other.words, name, other_name, page, buffer),
             self.out,
             self.err,
         )
