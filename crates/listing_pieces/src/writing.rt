@@ -133,6 +133,7 @@ impl<'a> Writing<'a> {
         append_complete(text, size);
     }
 
+    // As that of a list of pairs (pair_listings): one function for both would take what appends the line as a closure, with a contract of its own.
     fn last_line(self, page: Page, out: &mut [u8]) -> Option<Written>
         requires { page.stage ≡ Stage.Last }
         ensures { PieceWell self.entry.job self.entry.name.now self.entry.table.now self.entry.pair.words.now self.entry.pair.other.now page out.new (piece_of page result) }

@@ -95,6 +95,7 @@ impl<'a> Writing<'a> {
         }
     }
 
+    // As that of a list of offsets (listing_pieces): one function for both would take what appends the line as a closure, with a contract of its own.
     fn last_line(self, page: Page, out: &mut [u8]) -> Option<Written>
         requires { page.stage ≡ Stage.Last }
         ensures { PieceWell self.entry.job (entry_of self.entry.table.now) self.entry.set.words.now page out.new (piece_of page result) }
