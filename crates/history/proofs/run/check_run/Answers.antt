@@ -5,13 +5,6 @@ use Rattle.sets.proofs.RefusalLaws.{first_refused}
 use Rattle.whole_walks.proofs.RuleLaws.{answers-yes, answers_no}
 use Rattle.history.proofs.run.check_run.Goals as goal
 
-pub returns-in_err-check_new : goal.returns-in_err-check_new
-returns-in_err-check_new c = first_refused _ _ _ c.from_residual.ensures.1 c.in_err-check_new.ensures
-
-pub returns-in_err-check_new-2 : goal.returns-in_err-check_new-2
-returns-in_err-check_new-2 c =
-    first-yes (sym c.in_ok-check_new.ensures) (first_refused _ _ _ c.from_residual-in_err-check_new-2.ensures.1 c.in_err-check_new-2.ensures)
-
 pub returns-then-out-steps : goal.returns-then-out-steps
 returns-then-out-steps c =
     first-yes (sym c.in_ok-check_new.ensures) (first-yes (sym c.in_ok-check_new-2.ensures) (sym (answers_no _ _ (omega arith))))

@@ -12,9 +12,6 @@ lent c = let a = c.args in input_of a.a_bits a.words.now a.b_bits a.other.now a.
 asked : (c : In_ok-check_run) → questions_of (lent c) ≡ 0
 asked c = sym c.in_ok-check_run.ensures
 
-pub returns-in_err-check_run : goal.returns-in_err-check_run
-returns-in_err-check_run c = run_refused _ _ _ c.from_residual.ensures.1 c.in_err-check_run.ensures
-
 pub returns-in_err-fresh_a : goal.returns-in_err-fresh_a
 returns-in_err-fresh_a c =
     let start = (goal.at.returns-in_err-fresh_a c).In_ok-check_run in
