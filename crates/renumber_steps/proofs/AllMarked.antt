@@ -24,7 +24,7 @@ use Rattle.renumber_steps.specs.Pairs.{olds, repeats, sided}
 use Rattle.renumber_steps.specs.Passes.{Taken, marked, marking_all, aboves, no_marks}
 use Rattle.renumber_steps.specs.declared.pair.Pair.{Pair}
 use Rattle.renumber_steps.proofs.CountLaws.{count_list}
-use Rattle.renumber_steps.proofs.RepeatLaws.{held, held_len, held_has, hits, marks, marks_len, marks_has}
+use Rattle.renumber_steps.proofs.HeldLaws.{held, held_len, held_has, hits, marks, marks_len, marks_has}
 use Rattle.renumber_steps.proofs.SharedLaws.{no_marks_long, run}
 
 -- ---- marks that none was there for

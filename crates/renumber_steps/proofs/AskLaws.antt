@@ -1,15 +1,15 @@
 -- The questions of the pairs, as they are asked, and what is left where all are passed. Assumes nothing.
-use mathlib.Core.Path.{◌≡◌, refl, sym, ap, ap₂, ◌∙◌}
+use mathlib.Core.Path.{◌≡◌, refl, sym, ap, ◌∙◌}
 use mathlib.Core.Bool.{Bool, true, false, cond, not, ◌&&◌, ◌||◌}
 use mathlib.Core.List.{List, [], ◌∷◌}
 use mathlib.Core.Logic.{◌⊎◌, inl, inr}
-use Prim.Native.Nat.{ℕ, zero, suc, ◌≤◌, ◌<◌}
+use Prim.Native.Nat.{ℕ, suc, ◌≤◌, ◌<◌}
 use native.Mathlib.Omega.{arith}
 use borrow.Author.Tests.{le-leb, lt-leb}
 use lib.Dec.{leb}
 use lib.ListN.{length}
 use Rattle.std.specs.List.{list_any}
-use Rattle.word_bits.specs.Counts.{some, all}
+use Rattle.word_bits.specs.Counts.{some}
 use Rattle.word_bits.proofs.Order.{lt-or-le}
 use Rattle.sets.specs.Members.{Members, words_of, read, write, empty, set_of}
 use Rattle.sets.specs.Questions.{first, questions, new_questions, position_question, positions_question, both_questions}
@@ -20,6 +20,7 @@ use Rattle.sets.proofs.OutcomeLaws.{given_yes, edited_no}
 use Rattle.sets.proofs.QuestionLaws.{Valid, valid, valid_yes, first_no, first-yes, first-both, position_yes, position_no, room}
 use Rattle.sets.proofs.ReadLaws.{write_valid}
 use Rattle.sets.proofs.WriteLaws.{Clipped, read-write}
+use Rattle.tests.proofs.RowLaws.{all-not-some}
 use Rattle.comparisons.specs.Relations.{subset}
 use Rattle.comparisons.specs.Rules.{is_subset_rule}
 use Rattle.edits.specs.Edits.{is_in}
@@ -27,7 +28,8 @@ use Rattle.renumber_steps.specs.Pairs.{olds, news, repeats, renumbered, sided_pa
 use Rattle.renumber_steps.specs.Rules.{olds_question, news_question, members_question, pairs_questions, renumber_questions, renumber_rule}
 use Rattle.renumber_steps.specs.Passes.{aboves, moved, no_marks, shared, pairs_number}
 use Rattle.renumber_steps.specs.declared.pair.Pair.{Pair}
-use Rattle.renumber_steps.proofs.RepeatLaws.{hits, marks, hits_repeats, marks_len, marks_clipped, marks_has}
+use Rattle.renumber_steps.proofs.HeldLaws.{hits, marks, marks_len, marks_clipped, marks_has}
+use Rattle.renumber_steps.proofs.RepeatLaws.{hits_repeats}
 use Rattle.renumber_steps.proofs.RunLaws.{moved_all}
 use Rattle.renumber_steps.proofs.SharedLaws.{no_marks_long, none_clipped, shared-found, shared-words}
 
@@ -55,15 +57,6 @@ beyond n back (p ∷ ps) = go (sided_pair back p).old (lt-or-le (sided_pair back
     go x (inr g) e = rw (le-leb n x g) (first_no _ (sym (position_no (set_of (empty n)) x g)) (λ z. omega arith))
 
 -- ---- 12
-
-all-some : (n : ℕ) (f g : ℕ → Bool) → ((p : ℕ) → p < n → f p ≡ not (g p)) → all n f ≡ not (some n g)
-unfolding all some
-all-some zero f g h = refl
-all-some (suc n) f g h = ap₂ ◌&&◌ (all-some n f g (λ p l. h p (omega arith))) (h n (omega arith)) ∙ go (some n g) (g n)
-  where
-    go : (a b : Bool) → (not a && not b) ≡ not (a || b)
-    go true b = refl
-    go false b = refl
 
 module _ (set : FixedBitSet) (ws : List ℕ) (ps : List Pair) (v : Valid set ws) (e : repeats (olds ps) ≡ false) where
   abbrev ts : Members
@@ -113,7 +106,7 @@ module _ (set : FixedBitSet) (ws : List ℕ) (ps : List Pair) (v : Valid set ws)
       ap (λ (l : List ℕ). (is_subset_rule set ws (set_of (empty 65536)) l).yes) (shared-words (olds ps))
       ∙ ap (λ (t : Told). t.yes) (sym (given_yes (λ m. record { number = m; yes = false }) (sym asked-both) refl))
       ∙ ap (subset (read ws set)) marked-read
-      ∙ all-some set.length _ (λ p. (read ws set).has p && not (is_in (olds ps) p)) listed
+      ∙ all-not-some set.length _ (λ p. (read ws set).has p && not (is_in (olds ps) p)) listed
 
 -- ---- all of them
 

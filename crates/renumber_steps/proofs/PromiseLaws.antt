@@ -1,69 +1,36 @@
 -- The counts of both sets are equal, and the way back gives the old set. Assumes nothing.
 use mathlib.Core.Path.{◌≡◌, refl, sym, ap, ap₂, ◌∙◌, fun_ext}
-use mathlib.Core.Bool.{Bool, true, false, cond, not, ◌&&◌, true≢false}
+use mathlib.Core.Bool.{Bool, true, false, cond, not, ◌&&◌}
 use mathlib.Core.List.{List, [], ◌∷◌}
 use mathlib.Core.Logic.{◌⊎◌, inl, inr}
-use Prim.Native.Nat.{ℕ, ◌+◌, ◌-◌, ◌^◌, ◌≤◌, ◌<◌}
+use Prim.Native.Nat.{ℕ, zero, suc, ◌^◌, ◌≤◌, ◌<◌}
 use native.Mathlib.Omega.{arith}
 use Rattle.std.proofs.Math.Bool.{and-false, and_comm}
-use lib.ListN.{length, get_or, take, drop, length-drop}
-use lib.Seq.{ext_get_or, length-take-le, get_or-take, get_or-drop}
+use lib.ListN.{length, get_or, take, drop}
+use lib.Seq.{take_at, drop_at}
 use Rattle.word_bits.proofs.Order.{lt-or-le}
-use Rattle.sets.specs.Members.{Members, words_of, read, write, empty, set_of}
+use Rattle.sets.specs.Members.{Members, words_of, words_from, read, write, empty, set_of}
 use Rattle.sets.specs.Questions.{first, position_question, positions_question}
 use Rattle.sets.specs.Outcomes.{Outcome}
 use Rattle.sets.specs.declared.fixed_bit_set.FixedBitSet.{FixedBitSet}
-use Rattle.sets.proofs.QuestionLaws.{Valid, valid_yes, first-yes, first_no, Room, room_yes, position_yes, position_no}
+use Rattle.sets.proofs.QuestionLaws.{valid_yes, first-yes, first_no, Room, room_yes, position_yes, position_no}
 use Rattle.sets.proofs.OutcomeLaws.{given_yes, given-number}
-use Rattle.sets.proofs.ReadLaws.{read_above, write_valid, write_read}
-use Rattle.sets.proofs.WriteLaws.{Clipped, read-write, length-write, write_in, write_out}
+use Rattle.sets.proofs.ReadLaws.{read_above, write_read}
 use Rattle.edits.specs.Edits.{is_in}
-use Rattle.edits.proofs.ListChanges.{not_listed}
 use Rattle.renumber_steps.specs.Pairs.{olds, news, repeats, arrives, renumbered, swapped}
 use Rattle.renumber_steps.specs.Rules.{olds_question, news_question, renumber_questions, renumber_rule}
 use Rattle.renumber_steps.specs.Promises.{size, leaves, SameCount, way_back, WayBack}
 use Rattle.renumber_steps.specs.declared.pair.Pair.{Pair}
 use Rattle.renumber_steps.proofs.PairListLaws.{swapped-olds, swapped-news, arrives_in, there_and_back}
-use Rattle.renumber_steps.proofs.CountLaws.{same_count}
+use Rattle.renumber_steps.proofs.NewSetLaws.{has_pair, new_valid, new_read, new_count}
 use Rattle.renumber_steps.proofs.AcceptLaws.{Accepted, accepted, accepts, accepted_by}
 
-and-not : (a b : Bool) → (a && not b) ≡ false → (a && b) ≡ a
-and-not true true e = refl
-and-not true false e = absurd (true≢false e)
-and-not false b e = refl
-
 module _ (set : FixedBitSet) (ws : List ℕ) (ps : List Pair) (n : ℕ) (vs : List ℕ) where
-  abbrev s : Members
-  s = read ws set
-
-  abbrev t : Members
-  t = renumbered ps n s
-
-  module _ (a : Accepted set ws ps n (length vs)) where
-    has_pair : (x : ℕ) → x < set.length → (s.has x && is_in (olds ps) x) ≡ s.has x
-    has_pair x l = and-not (s.has x) (is_in (olds ps) x) (a.paired x l)
-
-    -- the new set has no member from its length up
-    new_clipped : Clipped t
-    unfolding renumbered
-    new_clipped = record { above = λ q h. arrives_in ps s q (not_listed (set_of (empty n)) (news ps) q a.below h) }
-
-    new_valid : Valid (set_of t) (write vs t)
-    unfolding renumbered
-    new_valid = write_valid vs t new_clipped a.enough.small a.enough.enough
-
-    new_read : read (write vs t) (set_of t) ≡ t
-    new_read = read-write vs t new_clipped
-
-    new_count : size t ≡ size s
-    unfolding renumbered read
-    new_count = same_count set (set_of (empty n)) ps s a.olds-once a.news-once a.below (λ x h. read_above ws set x h) has_pair
-
   pub counts_equal : SameCount set ws ps n vs
   counts_equal e =
       let q = accepted_by set ws ps n vs e in
       let a = accepted set ws ps n (length vs) q.0 in
-      ap (λ (o : Outcome). size (leaves o)) q.1 ∙ ap size (new_read a) ∙ new_count a
+      ap (λ (o : Outcome). size (leaves o)) q.1 ∙ ap size (new_read set ws ps n vs a) ∙ new_count set ws ps n vs a
 
 -- ---- the way back
 
@@ -80,26 +47,19 @@ refused_4 set (x ∷ xs) h = go (lt-or-le x set.length) (λ k. refused_4 set xs 
         sym (first-yes yes (sym (k (λ e. h (sym (first-yes yes (sym e)))))))
     go (inr g) k = sym (first_no (positions_question set xs) (sym (position_no set x g)) (λ z. omega arith))
 
--- the first W words of a set written are the same whatever they are written into
-module _ (us ws : List ℕ) (m : Members) (room_u : words_of m.len ≤ length us) (room_w : words_of m.len ≤ length ws) where
-  written_long : (l : List ℕ) → words_of m.len ≤ length l → length (take (words_of m.len) (write l m)) ≡ words_of m.len
-  written_long l r = length-take-le (words_of m.len) (write l m) (rw (length-write l m r) r)
+words-length : (f : ℕ → Bool) (k n : ℕ) → length (words_from f k n) ≡ n
+words-length f k zero = refl
+words-length f k (suc n) = ap suc (words-length f (suc k) n)
 
+-- the first words of a set written are the same whatever they are written into, and the others stay
+module _ (us ws : List ℕ) (m : Members) where
   first-words : take (words_of m.len) (write us m) ≡ take (words_of m.len) (write ws m)
-  first-words =
-      ext_get_or 0 (take (words_of m.len) (write us m)) (take (words_of m.len) (write ws m)) (written_long us room_u ∙ sym (written_long ws room_w))
-      (λ i h. at i (rw (sym (written_long us room_u)) h))
-    where
-      at : (i : ℕ) → i < words_of m.len → get_or (take (words_of m.len) (write us m)) i 0 ≡ get_or (take (words_of m.len) (write ws m)) i 0
-      at i l =
-          get_or-take (words_of m.len) (write us m) i 0 l ∙ write_in us m i l ∙ sym (write_in ws m i l)
-          ∙ sym (get_or-take (words_of m.len) (write ws m) i 0 l)
+  unfolding write
+  first-words = take_at _ _ _ (words-length m.has 0 (words_of m.len)) ∙ sym (take_at _ _ _ (words-length m.has 0 (words_of m.len)))
 
   later_words : drop (words_of m.len) (write us m) ≡ drop (words_of m.len) us
-  later_words =
-      let w = words_of m.len in
-      ext_get_or 0 (drop w (write us m)) (drop w us) (length-drop w (write us m) ∙ ap (λ (k : ℕ). k - w) (length-write us m room_u) ∙ sym (length-drop w us))
-      (λ i h. get_or-drop w (write us m) i 0 ∙ write_out us m (w + i) (omega arith) ∙ sym (get_or-drop w us i 0))
+  unfolding write
+  later_words = drop_at _ _ _ (words-length m.has 0 (words_of m.len))
 
 module _ (set : FixedBitSet) (ws : List ℕ) (ps : List Pair) (n : ℕ) (vs us : List ℕ) (a : Accepted set ws ps n (length vs)) (space : words_of set.length ≤ length us) where
   abbrev old : Members
@@ -184,9 +144,9 @@ way_back_lem set ws ps n vs us fit e space = record {
       record {
         accepted = ap (λ (o : Outcome). o.number) is;
         same_set = ap (λ (o : Outcome). o.set) is;
-        same_words = ap (λ (o : Outcome). take (words_of set.length) o.words) is ∙ first-words us ws (read ws set) space a.good.enough
+        same_words = ap (λ (o : Outcome). take (words_of set.length) o.words) is ∙ first-words us ws (read ws set)
             ∙ ap (take (words_of set.length)) (write_read set ws a.good fit);
-        rest = ap (λ (o : Outcome). drop (words_of set.length) o.words) is ∙ later_words us ws (read ws set) space a.good.enough;
+        rest = ap (λ (o : Outcome). drop (words_of set.length) o.words) is ∙ later_words us ws (read ws set);
       };
   beyond = λ h. ap (λ (o : Outcome). o.number) there
       ∙ given-number (λ (o : Outcome). o.number) (λ m. record { number = m; set = set_of (empty 0); words = us }) _

@@ -21,7 +21,7 @@ use Rattle.renumber_steps.specs.Pairs.{news, arrives, renumbered}
 use Rattle.renumber_steps.specs.Passes.{marked, marking_all, moved}
 use Rattle.renumber_steps.specs.declared.pair.Pair.{Pair}
 use Rattle.renumber_steps.proofs.MarkLaws.{mark_write}
-use Rattle.renumber_steps.proofs.RepeatLaws.{held, held_in, held_out, held_len, held_clipped, hits, marks}
+use Rattle.renumber_steps.proofs.HeldLaws.{held, held_in, held_out, held_len, held_clipped, hits, marks}
 
 -- ---- marking
 

@@ -11,7 +11,8 @@ use Rattle.sets.proofs.WriteLaws.{Clipped, write_is}
 use Rattle.sets.proofs.ZeroLaws.{no_members}
 use Rattle.renumber_steps.specs.Pairs.{repeats}
 use Rattle.renumber_steps.specs.Passes.{Taken, aboves, marking_all, no_marks, shared}
-use Rattle.renumber_steps.proofs.RepeatLaws.{hits, marks, hits_repeats}
+use Rattle.renumber_steps.proofs.HeldLaws.{hits, marks}
+use Rattle.renumber_steps.proofs.RepeatLaws.{hits_repeats}
 use Rattle.renumber_steps.proofs.RunLaws.{marked_run}
 
 pub no_marks_long : length no_marks ≡ 1024

@@ -1,7 +1,6 @@
 use mathlib.Core.Path.{sym}
 use native.Mathlib.Omega.{arith}
 use Rattle.sets.proofs.QuestionLaws.{first-yes}
-use Rattle.sets.proofs.RefusalLaws.{first_refused}
 use Rattle.whole_walks.proofs.RuleLaws.{answers-yes, answers_no}
 use Rattle.history.proofs.run.check_run.Goals as goal
 

@@ -1,7 +1,7 @@
 use mathlib.Core.Path.{◌≡◌, sym}
 use Rattle.sets.proofs.RefusalLaws.{number_ne0}
 use Rattle.history.specs.Runs.{Input, input_of, questions_of}
-use Rattle.history.proofs.RunLaws.{accepted, calls-made, fresh, passed, run_refused, walk_made}
+use Rattle.history.proofs.RunLaws.{accepted, calls-made, fresh, passed, walk_made}
 use Rattle.history.proofs.run.run_history.Goals as goal
 use Rattle.history.proofs.run.run_history.Goals.{In_ok-check_run}
 
