@@ -26,10 +26,6 @@ pub record HoldsCounts (f : Counts) (r : Tally) (text : Text) : Type 0 where
   pub bads : r.bads ≡ f.bads
   pub report : Reported f.report text
 
--- a reader's counts with a bad line more
-abbrev pub bad_tally : Tally → Tally
-bad_tally r = record { lines = more r.lines; named = r.named; said = r.said; bads = more r.bads }
-
 -- a line with nothing to say
 unfoldable pub blank_counts : Counts → Counts
 blank_counts f = record { lines = more f.lines; named = f.named; said = f.said; bads = f.bads; report = f.report }

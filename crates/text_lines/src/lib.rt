@@ -1,19 +1,21 @@
-// A text that is read in pieces, line by line: the bytes of the line that is not ended, the number of its lines, and what is said of a bad one.
+// A text that is read in pieces, line by line: the bytes of the line that is not ended, what is counted of its lines, and what is said of a bad one.
 #![tactic(auto)]
 
 mod bytes;
-mod messages;
+mod file_report;
 mod numbers;
 mod open_line;
+mod open_lines;
+mod places;
 mod readers;
+mod reasons;
 mod tally;
-mod text_reader;
-mod wrong_counts;
 
 pub use bytes::{body_of, starts_with_mark};
-pub use messages::{append_bad, append_place};
+pub use file_report::FileReport;
 pub use numbers::more;
 pub use open_line::OpenLine;
-pub use readers::{LineReader, finish, take};
+pub use places::Place;
+pub use readers::LineReader;
+pub use reasons::Reason;
 pub use tally::Tally;
-pub use text_reader::TextReader;
