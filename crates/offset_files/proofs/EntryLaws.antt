@@ -8,10 +8,9 @@ use borrow.Author.Tests.{eq-eqb, ne_eqb}
 use lib.Dec.{eqb}
 use lib.ListN.{get_or}
 use Rattle.byte_texts.specs.Ascii.{ascii}
-use Rattle.byte_texts.specs.declared.texts.Text.{Text}
 use Rattle.offset_files.specs.Files.{File, blank_line, bad_line, new_offset, second_naming, offset_line}
 use Rattle.offset_files.specs.Holds.{HoldsFile}
-use Rattle.offset_files.specs.declared.reading.Reading.{Reading}
+use Rattle.offset_files.specs.declared.reader.OffsetReader.{OffsetReader}
 use Rattle.offset_files.proofs.TableLaws.{table-first, table_again}
 
 -- ---- a word of the table
@@ -30,47 +29,46 @@ chosen name full offset f said none again =
     cond said (bad_line name full (ascii "an offset behind the last line of a list") f)
     (cond none (new_offset offset f) (cond again (blank_line f) (second_naming name offset f)))
 
-module _ {f : File} {r : Reading} {words table : List ℕ} {report : Text} (h : HoldsFile f r words table report) (offset : ℕ) (below : offset < 65536) where
-  pub first_is : get_or table offset 0 / 2 ≡ f.first offset
+module _ {f : File} {r : OffsetReader} (h : HoldsFile f r) (offset : ℕ) (below : offset < 65536) where
+  abbrev pub entry : ℕ
+  entry = get_or r.table.now offset 0
+
+  pub first_is : entry / 2 ≡ f.first offset
   first_is = ap (λ (w : ℕ). w / 2) (h.entries offset below) ∙ table-first (f.first offset) (f.again offset)
 
-  again_is : get_or table offset 0 % 2 ≡ cond (f.again offset) 1 0
+  again_is : entry % 2 ≡ cond (f.again offset) 1 0
   again_is = ap (λ (w : ℕ). w % 2) (h.entries offset below) ∙ table_again (f.first offset) (f.again offset)
 
-  pub first-none : get_or table offset 0 < 2 → f.first offset ≡ 0
+  pub first-none : entry < 2 → f.first offset ≡ 0
   first-none l = sym first_is ∙ omega arith
 
-  first_some : 2 ≤ get_or table offset 0 → f.first offset ≡ 0 → ⊥
+  first_some : 2 ≤ entry → f.first offset ≡ 0 → ⊥
   first_some l z = let q = first_is ∙ z in omega arith
 
-  pub named-once : (get_or table offset 0 % 2 ≡ 1 → ⊥) → f.again offset ≡ false
+  pub named-once : (entry % 2 ≡ 1 → ⊥) → f.again offset ≡ false
   named-once o = again_no (f.again offset) (λ z. o (again_is ∙ z))
 
-  module _ (name full : List ℕ) {s : Reading} {words' table' : List ℕ} {report' : Text} where
-    choose : {said none again : Bool} → r.tally.said ≡ said → eqb (f.first offset) 0 ≡ none → f.again offset ≡ again → HoldsFile (chosen name full offset f said none again) s words' table' report'
-        → HoldsFile (offset_line name full offset f) s words' table' report'
+  module _ (name body : List ℕ) {s : OffsetReader} where
+    choose : {said none again : Bool} → r.report.now.tally.said ≡ said → eqb (f.first offset) 0 ≡ none → f.again offset ≡ again → HoldsFile (chosen name body offset f said none again) s
+        → HoldsFile (offset_line name body offset f) s
     unfolding offset_line chosen
     choose {said} {none} {again} a b c g =
-        subst (λ (x : File). HoldsFile x s words' table' report')
-        (ap (λ (t : Bool). chosen name full offset f t none again) (sym a ∙ h.counts.said) ∙ ap (λ (t : Bool). chosen name full offset f f.said t again) (sym b)
-        ∙ ap (chosen name full offset f f.said (eqb (f.first offset) 0)) (sym c)) g
+        subst (λ (x : File). HoldsFile x s)
+        (ap (λ (t : Bool). chosen name body offset f t none again) (sym a ∙ h.counts.said) ∙ ap (λ (t : Bool). chosen name body offset f f.said t again) (sym b)
+        ∙ ap (chosen name body offset f f.said (eqb (f.first offset) 0)) (sym c)) g
 
-    pub offset_said : r.tally.said ≡ true → HoldsFile (bad_line name full (ascii "an offset behind the last line of a list") f) s words' table' report'
-        → HoldsFile (offset_line name full offset f) s words' table' report'
+    pub offset_said : r.report.now.tally.said ≡ true → HoldsFile (bad_line name body (ascii "an offset behind the last line of a list") f) s → HoldsFile (offset_line name body offset f) s
     unfolding chosen
     offset_said e g = choose e refl refl g
 
-    pub offset_new : r.tally.said ≡ false → get_or table offset 0 < 2 → HoldsFile (new_offset offset f) s words' table' report'
-        → HoldsFile (offset_line name full offset f) s words' table' report'
+    pub offset_new : r.report.now.tally.said ≡ false → entry < 2 → HoldsFile (new_offset offset f) s → HoldsFile (offset_line name body offset f) s
     unfolding chosen
     offset_new e l g = choose e (eq-eqb (f.first offset) 0 (first-none l)) refl g
 
-    pub offset_third : r.tally.said ≡ false → 2 ≤ get_or table offset 0 → get_or table offset 0 % 2 ≡ 1 → HoldsFile (blank_line f) s words' table' report'
-        → HoldsFile (offset_line name full offset f) s words' table' report'
+    pub offset_third : r.report.now.tally.said ≡ false → 2 ≤ entry → entry % 2 ≡ 1 → HoldsFile (blank_line f) s → HoldsFile (offset_line name body offset f) s
     unfolding chosen
     offset_third e l o g = choose e (ne_eqb (f.first offset) 0 (first_some l)) (again_yes (f.again offset) (sym again_is ∙ o)) g
 
-    pub offset_second : r.tally.said ≡ false → 2 ≤ get_or table offset 0 → (get_or table offset 0 % 2 ≡ 1 → ⊥) → HoldsFile (second_naming name offset f) s words' table' report'
-        → HoldsFile (offset_line name full offset f) s words' table' report'
+    pub offset_second : r.report.now.tally.said ≡ false → 2 ≤ entry → (entry % 2 ≡ 1 → ⊥) → HoldsFile (second_naming name offset f) s → HoldsFile (offset_line name body offset f) s
     unfolding chosen
     offset_second e l o g = choose e (ne_eqb (f.first offset) 0 (first_some l)) (named-once o) g

@@ -1,148 +1,102 @@
-ghost use Rattle.std.specs.Prelude.{◌≡◌, false, List, ℕ, ◌<◌};
-ghost use Rattle.byte_texts.specs.Texts.{shown_text};
-ghost use Rattle.byte_texts.specs.declared.texts.Text.{Text as TextOf};
-ghost use Rattle.offset_files.specs.Files.{File, blank_line, bad_line, new_offset, second_naming, offset_line, said_line};
-ghost use Rattle.offset_files.specs.Holds.{HoldsFile};
+ghost use Rattle.std.specs.Prelude.{◌≡◌, false, length, ◌<◌};
+ghost use Rattle.text_lines.specs.Messages.{reason_text};
+ghost use Rattle.text_lines.specs.Readers.{Makes};
+ghost use Rattle.offset_files.specs.Files.{File, no_lines, blank_line, bad_line, new_offset, second_naming, offset_line, said_line};
+ghost use Rattle.offset_files.specs.Holds.{kept, HoldsFile};
 
 use crate::messages::append_repeat;
-use crate::reading::Reading;
-use blocks::block;
-use byte_texts::Text;
+use crate::reader::OffsetReader;
 use edits::insert;
 use sets::FixedBitSet;
-use text_lines::{Tally, more};
+use text_lines::{Reason, Tally, more};
 
-// A line with nothing to say.
-pub fn blank_line(reading: Reading) -> Reading
-    ensures { (f : File) (words table : List ℕ) (report : TextOf) → HoldsFile f reading words table report → HoldsFile (blank_line f) result words table report }
-{
-    Reading {
-        tally: reading.tally.blank_line(),
-        ..reading
+impl<'a, 'b> OffsetReader<'a, 'b> {
+    // Nothing is read. The words, the table and the report are cleared.
+    pub fn start(&mut self)
+        ensures same { kept self.new ≡ kept self.old }
+        ensures none { length self.old.words.now ≡ 1024 → length self.old.table.now ≡ 65536 → HoldsFile no_lines self.new }
+    {
+        self.words.fill(0);
+        self.table.fill(0);
+        self.report.tally = Tally::new();
+        self.report.text.end = 0;
+        self.repeats = 0;
     }
-}
 
-// A line that may not stand there. Asks nothing, as those below: they are for the reads, which start with buffers that hold an empty file.
-pub fn bad_line(
-    reading: Reading,
-    name: &[u8],
-    body: &[u8],
-    reason: &[u8],
-    report: &mut Text,
-) -> Reading
-    ensures same_buffer { report.new.out.ghost_name ≡ report.old.out.ghost_name }
-    ensures held { (f : File) (full words table : List ℕ) → shown_text body.now ≡ shown_text full
-        → HoldsFile f reading words table report.old
-        → HoldsFile (bad_line name.now full reason.now f) result words table report.new }
-{
-    Reading {
-        tally: reading.tally.bad_line(name, body, reason, report),
-        ..reading
+    // A line with nothing to say.
+    pub fn blank_line(&mut self)
+        ensures { Makes kept HoldsFile blank_line self.old self.new }
+    {
+        self.report.blank_line();
     }
-}
 
-// The last line of a list.
-pub fn said_line(
-    reading: Reading,
-    name: &[u8],
-    body: &[u8],
-    says: usize,
-    report: &mut Text,
-) -> Reading
-    ensures same_buffer { report.new.out.ghost_name ≡ report.old.out.ghost_name }
-    ensures held { (f : File) (full words table : List ℕ) → shown_text body.now ≡ shown_text full
-        → HoldsFile f reading words table report.old
-        → HoldsFile (said_line name.now full says f) result words table report.new }
-{
-    Reading {
-        tally: reading
-            .tally
-            .said_line(name, body, says, b" offsets and names ", report),
-        ..reading
+    // A line that may not stand there.
+    pub fn bad_line(&mut self, body: &[u8], reason: Reason)
+        ensures { Makes kept HoldsFile (bad_line self.old.report.now.name body.now (reason_text reason.entry)) self.old self.new }
+    {
+        self.report.bad_line(body, reason);
     }
-}
 
-// An offset that no earlier line names: it becomes a member, and the table has its line: one lent word for each offset, since the project allocates none.
-#[tactic(auto, unfolding(text_lines::specs::Texts::more))]
-fn new_offset(reading: Reading, offset: usize, words: &mut [u64], table: &mut [u64]) -> Reading
-    ensures { (f : File) (report : TextOf) → offset < 65536 → f.first offset ≡ 0
-        → HoldsFile f reading words.old table.old report
-        → HoldsFile (new_offset offset f) result words.new table.new report }
-{
-    if table.len() <= offset {
-        return reading;
+    // The last line of a list.
+    pub fn said_line(&mut self, body: &[u8], says: usize)
+        ensures { Makes kept HoldsFile (said_line self.old.report.now.name body.now says) self.old self.new }
+    {
+        self.report.said_line(body, says, b" offsets and names ");
     }
-    let line = more(reading.tally.lines);
-    table[offset] = line as u64 * 2 + table[offset] % 2;
-    let _accepted = insert(FixedBitSet::new(65536), words, offset);
-    let tally = Tally {
-        lines: line,
-        named: more(reading.tally.named),
-        ..reading.tally
-    };
-    Reading { tally, ..reading }
-}
 
-// An offset that one earlier line names: the table has that it is named again.
-fn second_naming(
-    reading: Reading,
-    name: &[u8],
-    offset: usize,
-    table: &mut [u64],
-    report: &mut Text,
-) -> Reading
-    ensures same_buffer { report.new.out.ghost_name ≡ report.old.out.ghost_name }
-    ensures held { (f : File) (words : List ℕ) → offset < 65536 → f.again offset ≡ false
-        → HoldsFile f reading words table.old report.old
-        → HoldsFile (second_naming name.now offset f) result words table.new report.new }
-{
-    if table.len() <= offset {
-        return reading;
+    // An offset that no earlier line names: it becomes a member, and the table has its line.
+    #[tactic(auto, unfolding(text_lines::specs::Texts::more))]
+    fn new_offset(&mut self, offset: usize)
+        ensures same { kept self.new ≡ kept self.old }
+        ensures held { (f : File) → offset < 65536 → f.first offset ≡ 0 → HoldsFile f self.old → HoldsFile (new_offset offset f) self.new }
+    {
+        if self.table.len() <= offset {
+            return;
+        }
+        let line = more(self.report.tally.lines);
+        self.table[offset] = line as u64 * 2 + self.table[offset] % 2;
+        let _accepted = insert(FixedBitSet::new(65536), self.words, offset);
+        self.report.tally.lines = line;
+        self.report.tally.named = more(self.report.tally.named);
     }
-    let first = table[offset] / 2;
-    table[offset] = first * 2 + 1;
-    let line = more(reading.tally.lines);
-    let repeats = more(reading.repeats);
-    if reading.repeats < 20 {
-        append_repeat(report, name, line, offset, first);
-    }
-    let tally = Tally {
-        lines: line,
-        ..reading.tally
-    };
-    Reading { tally, repeats }
-}
 
-// An offset: none may stand behind the last line of a list.
-pub fn offset_line(
-    reading: Reading,
-    name: &[u8],
-    body: &[u8],
-    offset: usize,
-    words: &mut [u64],
-    table: &mut [u64],
-    report: &mut Text,
-) -> Reading
-    ensures same_buffer { report.new.out.ghost_name ≡ report.old.out.ghost_name }
-    ensures held { (f : File) (full : List ℕ) → shown_text body.now ≡ shown_text full → offset < 65536
-        → HoldsFile f reading words.old table.old report.old
-        → HoldsFile (offset_line name.now full offset f) result words.new table.new report.new }
-{
-    if reading.tally.said {
-        return bad_line(
-            reading,
-            name,
-            body,
-            b"an offset behind the last line of a list",
-            report,
-        );
+    // An offset that one earlier line names: the table has that it is named again.
+    fn second_naming(&mut self, offset: usize)
+        ensures same { kept self.new ≡ kept self.old }
+        ensures held { (f : File) → offset < 65536 → f.again offset ≡ false → HoldsFile f self.old → HoldsFile (second_naming self.old.report.now.name offset f) self.new }
+    {
+        if self.table.len() <= offset {
+            return;
+        }
+        let first = self.table[offset] / 2;
+        self.table[offset] = first * 2 + 1;
+        self.report.tally.lines = more(self.report.tally.lines);
+        let repeats = self.repeats;
+        self.repeats = more(repeats);
+        if repeats < 20 {
+            append_repeat(self.report, offset, first);
+        }
     }
-    let entry = block(table, offset);
-    if entry < 2 {
-        return new_offset(reading, offset, words, table);
+
+    // An offset: none may stand behind the last line of a list.
+    pub fn offset_line(&mut self, body: &[u8], offset: usize)
+        ensures same { kept self.new ≡ kept self.old }
+        ensures held { (f : File) → offset < 65536 → HoldsFile f self.old → HoldsFile (offset_line self.old.report.now.name body.now offset f) self.new }
+    {
+        if self.report.tally.said {
+            let reason = Reason::Words(b"an offset behind the last line of a list");
+            return self.bad_line(body, reason);
+        }
+        if self.table.len() <= offset {
+            return;
+        }
+        let entry = self.table[offset];
+        if entry < 2 {
+            return self.new_offset(offset);
+        }
+        if entry % 2 == 1 {
+            return self.blank_line();
+        }
+        self.second_naming(offset);
     }
-    if entry % 2 == 1 {
-        return blank_line(reading);
-    }
-    second_naming(reading, name, offset, table, report)
 }

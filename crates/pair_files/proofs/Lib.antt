@@ -1,4 +1,6 @@
+pub mod Examples
+pub mod MessageLaws
 pub mod TableLaws
 pub mod HoldsLaws
-pub mod MessageLaws
-pub mod Examples
+pub mod ChoiceLaws
+pub mod LineLaws

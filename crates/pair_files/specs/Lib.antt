@@ -2,4 +2,3 @@ pub mod Messages
 pub mod Files
 pub mod Holds
 pub mod Good
-pub mod Readers

@@ -7,4 +7,4 @@ mod naming;
 mod pairs;
 mod reader;
 
-pub use reader::{PairReader, start};
+pub use reader::PairReader;

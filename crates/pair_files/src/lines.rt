@@ -1,34 +1,40 @@
-ghost use Rattle.std.specs.Prelude.{◌≡◌, List, ℕ};
-ghost use Rattle.byte_texts.specs.Texts.{shown_text};
 ghost use Rattle.pair_lines.specs.Lines.{pair_line_of};
+ghost use Rattle.text_lines.specs.Readers.{Makes};
 ghost use Rattle.pair_files.specs.Files.{PairFile, entry_line};
-ghost use Rattle.pair_files.specs.Holds.{HoldsPairs};
+ghost use Rattle.pair_files.specs.Holds.{Kept, kept, step, HoldsPairs};
 
-use crate::pairs::pair_line;
-use byte_texts::Text;
+use crate::reader::PairReader;
 use offset_lines::Entry;
 use pair_lines::parse_pair;
-use text_lines::Tally;
+use text_lines::{LineReader, Reason, body_of};
 
-// A line by what it is. `body` has as many bytes of it as decide that, and as are shown.
-pub(crate) fn take_body(
-    tally: Tally,
-    name: &[u8],
-    body: &[u8],
-    size: usize,
-    to: &mut [u64],
-    from: &mut [u64],
-    report: &mut Text,
-) -> Tally
-    ensures same_buffer { report.new.out.ghost_name ≡ report.old.out.ghost_name }
-    ensures held { (f : PairFile) (full : List ℕ) → pair_line_of body.now ≡ pair_line_of full → shown_text body.now ≡ shown_text full
-        → HoldsPairs f tally to.old from.old report.old
-        → HoldsPairs (entry_line name.now full size (pair_line_of full) f) result to.new from.new report.new }
-{
-    match parse_pair(body) {
-        Ok(Entry::Blank) => tally.blank_line(),
-        Ok(Entry::Item(pair)) => pair_line(tally, name, body, size, pair, to, from, report),
-        Ok(Entry::Says(count)) => tally.said_line(name, body, count, b" pairs and names ", report),
-        Err(fault) => tally.bad_line(name, body, fault.text(), report),
+impl<'a, 'b> PairReader<'a, 'b> {
+    // A line by what it is.
+    fn entry_line(&mut self, body: &[u8])
+        ensures { Makes kept HoldsPairs (entry_line self.old.report.now.name body.now self.old.size (pair_line_of body.now)) self.old self.new }
+    {
+        match parse_pair(body) {
+            Ok(Entry::Blank) => self.blank_line(),
+            Ok(Entry::Item(pair)) => self.pair_line(body, pair),
+            Ok(Entry::Says(count)) => self.said_line(body, count),
+            Err(fault) => self.bad_line(body, Reason::Words(fault.text())),
+        }
+    }
+}
+
+impl<'a, 'b> LineReader for PairReader<'a, 'b> {
+    ghost Kept = { Kept };
+
+    ghost kept = { kept };
+
+    ghost File = { PairFile };
+
+    ghost step = { step };
+
+    ghost HoldsFile = { HoldsPairs };
+
+    fn take_line(&mut self, line: &[u8]) {
+        let body = body_of(self.report.tally.lines, line);
+        self.entry_line(body);
     }
 }

@@ -1,6 +1,5 @@
-ghost use Rattle.std.specs.Prelude.{◌≡◌, ◌&&◌, eqb, ltb, get_or};
+ghost use Rattle.std.specs.Prelude.{◌≡◌, ◌&&◌, eqb, ltb};
 
-use blocks::block;
 use pair_lines::Pair;
 
 // The pair of a line, and the words that its old offset and its new one had in the tables before.
@@ -12,16 +11,6 @@ pub(crate) struct Naming {
 }
 
 impl Naming {
-    pub(crate) fn new(pair: Pair, to: &[u64], from: &[u64]) -> Naming
-        ensures { result ≡ record { pair = pair; was = get_or to.now pair.old 0; came = get_or from.now pair.new 0 } }
-    {
-        Naming {
-            pair,
-            was: block(to, pair.old),
-            came: block(from, pair.new),
-        }
-    }
-
     // Whether 10, 11 and 4 do not refuse it.
     pub(crate) fn passes(self, size: usize) -> bool
         ensures { result ≡ (eqb self.was 0 && (eqb self.came 0 && ltb self.pair.new size)) }

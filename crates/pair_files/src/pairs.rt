@@ -1,15 +1,15 @@
-ghost use Rattle.std.specs.Prelude.{◌≡◌, cond, List, ℕ, ◌<◌, eqb, get_or, set};
-ghost use Rattle.byte_texts.specs.Texts.{shown_text};
-ghost use Rattle.byte_texts.specs.declared.texts.Text.{Text as TextOf};
-ghost use Rattle.pair_files.specs.Files.{PairFile, bad, named, accepted, pair_line};
-ghost use Rattle.pair_files.specs.Holds.{HoldsPairs};
+ghost use Rattle.std.specs.Prelude.{◌≡◌, cond, ℕ, ◌<◌, eqb, length, get_or, set};
+ghost use Rattle.text_lines.specs.Messages.{reason_text};
+ghost use Rattle.text_lines.specs.Readers.{Makes};
+ghost use Rattle.pair_files.specs.Files.{PairFile, no_pairs, blank_line, bad_line, said_line, bad, named, accepted, pair_line};
+ghost use Rattle.pair_files.specs.Holds.{kept, HoldsPairs};
 ghost use Rattle.pair_files.specs.Messages.{faults_text};
 
 use crate::naming::Naming;
+use crate::reader::PairReader;
 use blocks::block;
-use byte_texts::Text;
 use pair_lines::Pair;
-use text_lines::{Tally, more};
+use text_lines::{Reason, Tally, more};
 
 // An offset's word, where it has none.
 fn name_offset(table: &mut [u64], offset: usize, word: u64)
@@ -23,71 +23,104 @@ fn name_offset(table: &mut [u64], offset: usize, word: u64)
     }
 }
 
-// A line that names a pair, each of its offsets where no earlier line names it: one lent word for each has line and partner, since the project allocates none.
-fn name_pair(tally: Tally, pair: Pair, to: &mut [u64], from: &mut [u64]) -> Tally
-    ensures { (f : PairFile) (report : TextOf) → pair.old < 65536 → pair.new < 65536
-        → HoldsPairs f tally to.old from.old report
-        → HoldsPairs (named pair.old pair.new f) result to.new from.new report }
-{
-    if to.len() <= pair.old {
-        return tally;
+impl<'a, 'b> PairReader<'a, 'b> {
+    // Nothing is read. The tables and the report are cleared.
+    pub fn start(&mut self)
+        ensures same { kept self.new ≡ kept self.old }
+        ensures none { length self.old.to.now ≡ 65536 → length self.old.from.now ≡ 65536 → HoldsPairs no_pairs self.new }
+    {
+        self.to.fill(0);
+        self.from.fill(0);
+        self.report.tally = Tally::new();
+        self.report.text.end = 0;
     }
-    if from.len() <= pair.new {
-        return tally;
-    }
-    let lines = more(tally.lines);
-    let line = lines as u64 * 65536;
-    name_offset(to, pair.old, line + pair.new as u64);
-    name_offset(from, pair.new, line + pair.old as u64);
-    Tally { lines, ..tally }
-}
 
-// The two are a pair.
-fn accept_pair(tally: Tally) -> Tally
-    ensures { (f : PairFile) (old new : ℕ) (to from : List ℕ) (report : TextOf) → HoldsPairs f tally to from report → HoldsPairs (accepted old new f) result to from report }
-{
-    Tally {
-        named: more(tally.named),
-        ..tally
+    // A line with nothing to say.
+    pub(crate) fn blank_line(&mut self)
+        ensures { Makes kept HoldsPairs blank_line self.old self.new }
+    {
+        self.report.blank_line();
     }
-}
 
-// What refuses a pair is said.
-fn refuse_pair(tally: Tally, naming: Naming, name: &[u8], size: usize, report: &mut Text) -> Tally
-    ensures same_buffer { report.new.out.ghost_name ≡ report.old.out.ghost_name }
-    ensures held { (f : PairFile) (to from : List ℕ) → HoldsPairs f tally to from report.old
-        → HoldsPairs (bad (faults_text name.now f.lines size naming.pair.old naming.pair.new naming.was naming.came) f) result to from report.new }
-{
-    let bads = more(tally.bads);
-    if tally.bads < 20 {
-        naming.append_faults(report, name, tally.lines, size);
+    // A line that may not stand there.
+    pub(crate) fn bad_line(&mut self, body: &[u8], reason: Reason)
+        ensures { Makes kept HoldsPairs (bad_line self.old.report.now.name body.now (reason_text reason.entry)) self.old self.new }
+    {
+        self.report.bad_line(body, reason);
     }
-    Tally { bads, ..tally }
-}
 
-// Two offsets: none may stand behind the last line of a list. `size` is the new length.
-pub(crate) fn pair_line(
-    tally: Tally,
-    name: &[u8],
-    body: &[u8],
-    size: usize,
-    pair: Pair,
-    to: &mut [u64],
-    from: &mut [u64],
-    report: &mut Text,
-) -> Tally
-    ensures same_buffer { report.new.out.ghost_name ≡ report.old.out.ghost_name }
-    ensures held { (f : PairFile) (full : List ℕ) → shown_text body.now ≡ shown_text full → pair.old < 65536 → pair.new < 65536
-        → HoldsPairs f tally to.old from.old report.old
-        → HoldsPairs (pair_line name.now full size pair.old pair.new f) result to.new from.new report.new }
-{
-    if tally.said {
-        return tally.bad_line(name, body, b"a pair behind the last line of a list", report);
+    // The last line of a list.
+    pub(crate) fn said_line(&mut self, body: &[u8], says: usize)
+        ensures { Makes kept HoldsPairs (said_line self.old.report.now.name body.now says) self.old self.new }
+    {
+        self.report.said_line(body, says, b" pairs and names ");
     }
-    let naming = Naming::new(pair, to, from);
-    let next = name_pair(tally, pair, to, from);
-    if naming.passes(size) {
-        return accept_pair(next);
+
+    // A line that names a pair, each of its offsets where no earlier line names it.
+    fn name_pair(&mut self, pair: Pair)
+        ensures same { kept self.new ≡ kept self.old }
+        ensures held { (f : PairFile) → pair.old < 65536 → pair.new < 65536 → HoldsPairs f self.old → HoldsPairs (named pair.old pair.new f) self.new }
+    {
+        if self.to.len() <= pair.old {
+            return;
+        }
+        if self.from.len() <= pair.new {
+            return;
+        }
+        let lines = more(self.report.tally.lines);
+        let line = lines as u64 * 65536;
+        name_offset(self.to, pair.old, line + pair.new as u64);
+        name_offset(self.from, pair.new, line + pair.old as u64);
+        self.report.tally.lines = lines;
     }
-    refuse_pair(next, naming, name, size, report)
+
+    // The two are a pair.
+    fn accept_pair(&mut self)
+        ensures { (old new : ℕ) → Makes kept HoldsPairs (accepted old new) self.old self.new }
+    {
+        self.report.tally.named = more(self.report.tally.named);
+    }
+
+    // What refuses a pair is said.
+    fn refuse_pair(&mut self, naming: Naming)
+        ensures { Makes kept HoldsPairs (λ f. bad (faults_text self.old.report.now.name f.lines self.old.size naming.pair.old naming.pair.new naming.was naming.came) f) self.old self.new }
+    {
+        let bads = self.report.tally.bads;
+        self.report.tally.bads = more(bads);
+        if bads < 20 {
+            naming.append_faults(self.report, self.size);
+        }
+    }
+
+    // Two offsets: none may stand behind the last line of a list.
+    pub(crate) fn pair_line(&mut self, body: &[u8], pair: Pair)
+        ensures same { kept self.new ≡ kept self.old }
+        ensures held { (f : PairFile) → pair.old < 65536 → pair.new < 65536
+            → HoldsPairs f self.old → HoldsPairs (pair_line self.old.report.now.name body.now self.old.size pair.old pair.new f) self.new }
+    {
+        if self.report.tally.said {
+            return self.bad_line(
+                body,
+                Reason::Words(b"a pair behind the last line of a list"),
+            );
+        }
+        if self.to.len() <= pair.old {
+            return;
+        }
+        if self.from.len() <= pair.new {
+            return;
+        }
+        let naming = Naming {
+            pair,
+            was: self.to[pair.old],
+            came: self.from[pair.new],
+        };
+        let passes = naming.passes(self.size);
+        self.name_pair(pair);
+        if passes {
+            self.accept_pair();
+        } else {
+            self.refuse_pair(naming);
+        }
+    }
 }

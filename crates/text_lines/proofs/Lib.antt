@@ -5,3 +5,4 @@ pub mod ReportLaws
 pub mod MessageLaws
 pub mod TallyLaws
 pub mod ReaderLaws
+pub mod SaysLaws

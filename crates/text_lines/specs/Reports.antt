@@ -1,18 +1,24 @@
--- What the report on a file keeps, and what it holds.
-use Rattle.std.specs.Prelude.{List, ℕ}
+-- What the report on a file keeps, what is said in it, and what it holds.
+use Rattle.std.specs.Prelude.{◌≡◌, List, ℕ}
 use Rattle.std.specs.Borrow.{GName}
+use Rattle.byte_texts.specs.Growth.{Appended}
 use Rattle.text_lines.specs.Tallies.{Counts, HoldsCounts}
 use Rattle.text_lines.specs.declared.file_report.FileReport.{FileReport}
 
--- the file's name, the text that is lent, and its buffer
+-- the file's name, and the buffer of what is said
 pub record Kept : Type 0 where
   pub name : List ℕ
-  pub text : GName
   pub buffer : GName
 
 abbrev pub kept : FileReport → Kept
-kept r = record { name = r.name.now; text = r.text.ghost_name; buffer = r.text.now.out.ghost_name }
+kept r = record { name = r.name; buffer = r.text.out.ghost_name }
+
+-- these bytes are said behind, and nothing else is changed
+pub record Says (before after : FileReport) (bytes : List ℕ) : Type 0 where
+  pub name : after.name ≡ before.name
+  pub tally : after.tally ≡ before.tally
+  pub text : Appended before.text after.text bytes
 
 -- what is counted and said
 abbrev pub HoldsReport : Counts → FileReport → Type 0
-HoldsReport f r = HoldsCounts f r.tally r.text.now
+HoldsReport f r = HoldsCounts f r.tally r.text

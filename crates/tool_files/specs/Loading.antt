@@ -1,17 +1,17 @@
 -- What a file that was loaded is known to be. Which bytes the reads gave no contract can say: they are `text`.
-use Rattle.std.specs.Prelude.{◌≡◌, not, List, ℕ, ◌<◌, eqb, length, get_or}
+use Rattle.std.specs.Prelude.{◌≡◌, not, List, [], ℕ, ◌<◌, eqb, length, get_or}
 use Rattle.sets.specs.Members.{read}
-use Rattle.text_lines.specs.Texts.{Text, take_bytes, at_end}
+use Rattle.text_lines.specs.Texts.{take_bytes, at_end}
 use Rattle.offset_files.specs.Files.{file_of}
 use Rattle.offset_files.specs.Holds.{all_offsets}
 use Rattle.pair_files.specs.Files.{pair_file_of}
 
 -- `step` is what one line more makes of a file
 module _ {F : Type 0} (step : List ℕ → F → F) where
-  -- after the last read: a whole text
-  pub record ReadWhole (none : Text F) (H : F → Type 0) : Type 0 where
+  -- after the last read: a whole text, from a file with no lines
+  pub record ReadWhole (none : F) (H : F → Type 0) : Type 0 where
     pub text : List ℕ
-    pub holds : H (at_end step (take_bytes step none text))
+    pub holds : H (at_end step (take_bytes step (record { file = none; rest = [] }) text))
 
 -- a file that may be used: no line is bad, and the set has exactly the offsets that its lines name
 pub record Usable (name words : List ℕ) : Type 0 where

@@ -1,7 +1,7 @@
-ghost use Rattle.std.specs.Prelude.{◌≡◌, IfOk, OnOk};
+ghost use Rattle.std.specs.Prelude.{◌≡◌, IfOk, OnOk, length};
 ghost use Rattle.byte_texts.specs.Texts.{shown_name};
-ghost use Rattle.offset_files.specs.Files.{Text as TextOf};
-ghost use Rattle.offset_reads.specs.Readers.{kept, step, HoldsReader, HoldsText};
+ghost use Rattle.offset_files.specs.Files.{no_lines, take_line};
+ghost use Rattle.offset_files.specs.Holds.{HoldsFile};
 ghost use Rattle.tool_files.specs.Loading.{ReadWhole, Usable};
 
 use crate::messages::Trouble;
@@ -9,19 +9,20 @@ use crate::opening::open_file;
 use crate::reads::{Unread, read_text};
 use crate::reports::{tell_repeats, tell_report, tell_tally, tell_unread};
 use byte_texts::{ShownName, Text};
-use offset_reads::{OffsetReader, start};
+use offset_files::OffsetReader;
 use std::io::{Input, Read, Write};
 use std::rt::Files;
-use text_lines::OpenLine;
+use text_lines::{FileReport, Tally};
 
-// The call of the generic function: what that leaves behind a reader's buffers is known to its caller only if it says so.
+// Reads a file of offsets. One call with the reader, which says of each buffer that it stays: else what the buffers hold then is unknown to the caller.
 fn read_offsets<F: Read>(file: &mut F, reader: &mut OffsetReader) -> Result<(), Unread>
     ensures same_words { reader.new.words.ghost_name ≡ reader.old.words.ghost_name }
     ensures same_table { reader.new.table.ghost_name ≡ reader.old.table.ghost_name }
     ensures same_report { reader.new.report.ghost_name ≡ reader.old.report.ghost_name }
-    ensures whole { (none : TextOf) → HoldsText none reader.old
-        → IfOk result (λ _. ReadWhole (step (kept reader.old)) none (λ f. HoldsReader f reader.new)) }
+    ensures whole { length reader.old.words.now ≡ 1024 → length reader.old.table.now ≡ 65536
+        → IfOk result (λ _. ReadWhole (take_line reader.old.report.now.name) no_lines (λ f. HoldsFile f reader.new)) }
 {
+    reader.start();
     read_text(file, reader)
 }
 
@@ -29,36 +30,34 @@ fn read_offsets<F: Read>(file: &mut F, reader: &mut OffsetReader) -> Result<(), 
 fn load_open<F: Read, E: Write>(
     file: &mut F,
     name: &[u8],
-    shown: &[u8],
+    shown: ShownName,
     allow_empty: bool,
     err: &mut E,
     words: &mut [u64],
     table: &mut [u64],
 ) -> Result<(), Trouble>
-    ensures { OnOk result (Usable shown.now words.new) }
+    ensures { OnOk result (Usable shown words.new) }
 {
     if words.len() != 1024 || table.len() != 65536 {
         return Err(Trouble);
     }
     let mut space = [0u8; 16384];
-    let mut report = Text::new(&mut space);
-    let reading = start(words, table);
+    let mut report = FileReport::new(shown, &mut space);
     let mut reader = OffsetReader {
-        name: shown,
-        reading,
+        report: &mut report,
+        repeats: 0,
         words,
         table,
-        report: &mut report,
-        line: OpenLine::new(),
     };
     if let Err(unread) = read_offsets(file, &mut reader) {
         return Err(tell_unread(name, err, unread));
     }
-    let reading = reader.reading;
-    tell_report(name, err, report)?;
-    tell_repeats(name, err, reading.repeats)?;
+    let tally = reader.report.tally;
+    let repeats = reader.repeats;
+    tell_report(name, err, report.text)?;
+    tell_repeats(name, err, repeats)?;
     let nothing = b": it names no offset; with --allow-empty it may";
-    tell_tally(name, err, reading.tally, allow_empty, nothing)
+    tell_tally(name, err, tally, allow_empty, nothing)
 }
 
 // The offsets of a file as the members of a set of 65,536 bits; `-` is the standard input.
@@ -72,8 +71,7 @@ pub fn load<R: Files + Input, E: Write>(
 ) -> Result<(), Trouble>
     ensures { OnOk result (Usable (shown_name name.now) words.new) }
 {
-    let shown_name = ShownName::new(name);
-    let shown = shown_name.bytes();
+    let shown = ShownName::new(name);
     let mut file = open_file(rt, name, err)?;
     load_open(&mut file, name, shown, allow_empty, err, words, table)
 }

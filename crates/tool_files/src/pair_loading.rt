@@ -1,7 +1,7 @@
-ghost use Rattle.std.specs.Prelude.{◌≡◌, IfOk, OnOk};
+ghost use Rattle.std.specs.Prelude.{◌≡◌, IfOk, OnOk, length};
 ghost use Rattle.byte_texts.specs.Texts.{shown_name};
-ghost use Rattle.pair_files.specs.Files.{PairText};
-ghost use Rattle.pair_files.specs.Readers.{kept, step, HoldsReader, HoldsText};
+ghost use Rattle.pair_files.specs.Files.{no_pairs, take_pair};
+ghost use Rattle.pair_files.specs.Holds.{HoldsPairs};
 ghost use Rattle.tool_files.specs.Loading.{ReadWhole, UsablePairs};
 
 use crate::messages::Trouble;
@@ -9,54 +9,51 @@ use crate::opening::open_file;
 use crate::reads::{Unread, read_text};
 use crate::reports::{tell_report, tell_tally, tell_unread};
 use byte_texts::{ShownName, Text};
-use pair_files::{PairReader, start};
+use pair_files::PairReader;
 use std::io::{Input, Read, Write};
 use std::rt::Files;
-use text_lines::OpenLine;
+use text_lines::{FileReport, Tally};
 
-// The call of the generic function: what that leaves behind a reader's buffers is known to its caller only if it says so.
+// Reads a file of pairs. One call with the reader, which says of each buffer that it stays: else what the buffers hold then is unknown to the caller.
 fn read_pairs<F: Read>(file: &mut F, reader: &mut PairReader) -> Result<(), Unread>
     ensures same_to { reader.new.to.ghost_name ≡ reader.old.to.ghost_name }
     ensures same_from { reader.new.from.ghost_name ≡ reader.old.from.ghost_name }
     ensures same_report { reader.new.report.ghost_name ≡ reader.old.report.ghost_name }
-    ensures whole { (none : PairText) → HoldsText none reader.old
-        → IfOk result (λ _. ReadWhole (step (kept reader.old)) none (λ f. HoldsReader f reader.new)) }
+    ensures whole { length reader.old.to.now ≡ 65536 → length reader.old.from.now ≡ 65536
+        → IfOk result (λ _. ReadWhole (take_pair reader.old.report.now.name reader.old.size) no_pairs (λ f. HoldsPairs f reader.new)) }
 {
+    reader.start();
     read_text(file, reader)
 }
 
 fn load_open_pairs<F: Read, E: Write>(
     file: &mut F,
     name: &[u8],
-    shown: &[u8],
+    shown: ShownName,
     size: usize,
     allow_empty: bool,
     err: &mut E,
     to: &mut [u64],
     from: &mut [u64],
 ) -> Result<(), Trouble>
-    ensures { OnOk result (UsablePairs shown.now size to.new from.new) }
+    ensures { OnOk result (UsablePairs shown size to.new from.new) }
 {
     if to.len() != 65536 || from.len() != 65536 {
         return Err(Trouble);
     }
     let mut space = [0u8; 16384];
-    let mut report = Text::new(&mut space);
-    let tally = start(to, from);
+    let mut report = FileReport::new(shown, &mut space);
     let mut reader = PairReader {
-        name: shown,
+        report: &mut report,
         size,
-        tally,
         to,
         from,
-        report: &mut report,
-        line: OpenLine::new(),
     };
     if let Err(unread) = read_pairs(file, &mut reader) {
         return Err(tell_unread(name, err, unread));
     }
-    let tally = reader.tally;
-    tell_report(name, err, report)?;
+    let tally = reader.report.tally;
+    tell_report(name, err, report.text)?;
     let nothing = b": it names no pair; with --allow-empty it may";
     tell_tally(name, err, tally, allow_empty, nothing)
 }
@@ -73,8 +70,7 @@ pub fn load_pairs<R: Files + Input, E: Write>(
 ) -> Result<(), Trouble>
     ensures { OnOk result (UsablePairs (shown_name name.now) size to.new from.new) }
 {
-    let shown_name = ShownName::new(name);
-    let shown = shown_name.bytes();
+    let shown = ShownName::new(name);
     let mut file = open_file(rt, name, err)?;
     load_open_pairs(&mut file, name, shown, size, allow_empty, err, to, from)
 }

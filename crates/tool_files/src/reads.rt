@@ -1,11 +1,10 @@
 ghost use Rattle.std.specs.Prelude.{◌≡◌, ◌<◌, IfOk, IfSome};
 ghost use Rattle.io.specs.Counts.{IsPrefixLen};
-ghost use Rattle.text_lines.specs.Texts.{Text};
 ghost use Rattle.tool_files.specs.Loading.{ReadWhole};
 
 use std::io;
 use std::io::{ErrorKind, Read};
-use text_lines::TextReader;
+use text_lines::{LineReader, OpenLine};
 
 // Why a file was not read to its end.
 #[derive(Clone, Copy)]
@@ -59,16 +58,17 @@ impl Reads {
 }
 
 // Reads a file to its end.
-pub(crate) fn read_text<F: Read, R: TextReader>(file: &mut F, reader: &mut R) -> Result<(), Unread>
+pub(crate) fn read_text<F: Read, R: LineReader>(file: &mut F, reader: &mut R) -> Result<(), Unread>
     ensures same { R.kept reader.new ≡ R.kept reader.old }
-    ensures whole { (none : Text R.File) → R.HoldsText none reader.old
+    ensures whole { (none : R.File) → R.HoldsFile none reader.old
         → IfOk result (λ _. ReadWhole (R.step (R.kept reader.old)) none (λ f. R.HoldsFile f reader.new)) }
 {
     let mut buffer = [0u8; 65536];
+    let mut line = OpenLine::new();
     let mut reads = Reads::new();
     while let Some(count) = reads.read(file, &mut buffer)? {
-        reader.take(&buffer[..count]);
+        reader.take(&mut line, &buffer[..count]);
     }
-    reader.finish();
+    reader.finish(&line);
     Ok(())
 }

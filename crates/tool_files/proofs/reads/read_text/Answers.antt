@@ -2,10 +2,10 @@ use Rattle.tool_files.proofs.LoadLaws.{read_none, read_more, read_end}
 use Rattle.tool_files.proofs.reads.read_text.Goals as goal
 
 pub loop-count-init : goal.loop-count-init
-loop-count-init g c = read_none
+loop-count-init g c = read_none c.new-line.ensures
 
 pub loop-count-preserved : goal.loop-count-preserved
 loop-count-preserved g c = read_more _ c.loop-count.invariant c.take.ensures.same c.take.ensures.holds
 
 pub returns-clause-whole : goal.returns-clause-whole
-returns-clause-whole g c = read_end c.finish.new.self g.R.TextReader.HoldsFile c.loop-count.invariant c.finish.ensures.holds
+returns-clause-whole g c = read_end c.finish.new.self c.loop-count.invariant c.finish.ensures.holds

@@ -1,0 +1,9 @@
+use mathlib.Core.Path.{refl}
+use Rattle.text_lines.specs.Tallies.{blank_counts}
+use Rattle.offset_files.specs.Files.{blank_line}
+use Rattle.offset_files.proofs.HoldsLaws.{report_made}
+use Rattle.offset_files.proofs.reader.OffsetReader.blank_line.Goals as goal
+
+pub returns : goal.returns
+unfolding blank_line blank_counts
+returns c = report_made (λ f. refl) c.blank_line.ensures refl refl refl refl

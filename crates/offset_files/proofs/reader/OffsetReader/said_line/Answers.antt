@@ -1,0 +1,8 @@
+use mathlib.Core.Path.{refl}
+use Rattle.byte_texts.specs.Ascii.{ascii}
+use Rattle.offset_files.proofs.HoldsLaws.{report_made, said_counted}
+use Rattle.offset_files.proofs.reader.OffsetReader.said_line.Goals as goal
+
+pub returns : goal.returns
+unfolding ascii
+returns c = report_made (said_counted _ _ _) c.said_line.ensures refl refl refl refl

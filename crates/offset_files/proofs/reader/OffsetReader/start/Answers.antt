@@ -1,0 +1,7 @@
+use mathlib.Core.Path.{refl}
+use Rattle.offset_files.proofs.StartLaws.{start_holds}
+use Rattle.offset_files.proofs.reader.OffsetReader.start.Goals as goal
+
+pub returns-clause-none : goal.returns-clause-none
+returns-clause-none c = λ w t.
+    start_holds c.args.self.now c.new-self.ensures refl refl w t (c.fill.ensures.after (λ y h. h)) (c.fill-2.ensures.after (λ y h. h))
