@@ -9,7 +9,6 @@ use lib.Seq.{take_all}
 use Rattle.word_bits.specs.Counts.{count}
 use Rattle.word_bits.proofs.Ones.{count_ext}
 use Rattle.sets.specs.Members.{read}
-use Rattle.byte_texts.specs.declared.texts.Text.{Text}
 use Rattle.offset_lines.specs.Lines.{line_of}
 use Rattle.offset_file_laws.specs.Entries.{LineEntry}
 use Rattle.std.specs.Prelude.{Ok, Err}
@@ -17,7 +16,7 @@ use Rattle.offset_lines.specs.declared.entry.Entry.TheVariants.{Blank, Item, Say
 use Rattle.offset_files.specs.Files.{File, no_lines, entry_line, file_of}
 use Rattle.offset_file_laws.specs.Entries.{lines_of, bodies_of, entries_of, is_offset, is_last, says_count, some_entry}
 use Rattle.offset_files.specs.Holds.{HoldsFile, all_offsets}
-use Rattle.offset_files.specs.declared.reading.Reading.{Reading}
+use Rattle.offset_files.specs.declared.reader.OffsetReader.{OffsetReader}
 use Rattle.offset_file_laws.proofs.StepLaws.{entry_said}
 use Rattle.offset_file_laws.proofs.GoodLaws.{never, good_entry, other-named, said_named}
 use Rattle.offset_file_laws.proofs.FoldLaws.{entered, file_is}
@@ -70,23 +69,23 @@ module _ (name : List ℕ) where
 
   -- ---- what is held of the text
 
-  module _ (text : List ℕ) {r : Reading} {words table : List ℕ} {report : Text} (h : HoldsFile (file_of name text) r words table report) where
+  module _ (text : List ℕ) {r : OffsetReader} (h : HoldsFile (file_of name text) r) where
     -- `named` is the number of members
-    pub held_count : r.tally.named ≡ count 65536 (read words all_offsets).has
-    held_count = h.counts.named ∙ (counted_is name text).is ∙ count_ext 65536 (has_line (file_of name text)) (read words all_offsets).has (λ p l. sym (h.members p l))
+    pub held_count : r.report.now.tally.named ≡ count 65536 (read r.words.now all_offsets).has
+    held_count = h.counts.named ∙ (counted_is name text).is ∙ count_ext 65536 (has_line (file_of name text)) (read r.words.now all_offsets).has (λ p l. sym (h.members p l))
 
     -- with no bad line the members are the offsets that the text's lines name, all of them
-    pub held_names : r.tally.bads ≡ 0 → (p : ℕ) → p < 65536 → (read words all_offsets).has p ≡ some_entry (is_offset p) (entries_of text)
+    pub held_names : r.report.now.tally.bads ≡ 0 → (p : ℕ) → p < 65536 → (read r.words.now all_offsets).has p ≡ some_entry (is_offset p) (entries_of text)
     held_names z p l = h.members p l ∙ good-names name text (sym h.counts.bads ∙ z) p
 
     -- and as many as a last line says
-    pub held_says : r.tally.bads ≡ 0 → (n : ℕ) → some_entry (says_count n) (entries_of text) ≡ true → count 65536 (read words all_offsets).has ≡ n
+    pub held_says : r.report.now.tally.bads ≡ 0 → (n : ℕ) → some_entry (says_count n) (entries_of text) ≡ true → count 65536 (read r.words.now all_offsets).has ≡ n
     held_says z n s = sym held_count ∙ h.counts.named ∙ good_says text n (sym h.counts.bads ∙ z) s
 
     -- a report that ends before its buffer does is there whole
-    pub held_report : report.end < length report.out.now → take report.end report.out.now ≡ (file_of name text).report
-    held_report l = h.counts.report.reported ∙ take_all report.end (file_of name text).report (omega (arith, h.counts.report.report_end))
+    pub held_report : r.report.now.text.end < length r.report.now.text.out.now → take r.report.now.text.end r.report.now.text.out.now ≡ (file_of name text).report
+    held_report l = h.counts.report.reported ∙ take_all r.report.now.text.end (file_of name text).report (omega (arith, h.counts.report.report_end))
 
     -- and so is any in a buffer of 40 messages
-    pub held_room : 40 * room name ≤ length report.out.now → take report.end report.out.now ≡ (file_of name text).report
-    held_room l = h.counts.report.reported ∙ take_all report.end (file_of name text).report (let n = report_room name text in omega (arith, h.counts.report.report_end))
+    pub held_room : 40 * room name ≤ length r.report.now.text.out.now → take r.report.now.text.end r.report.now.text.out.now ≡ (file_of name text).report
+    held_room l = h.counts.report.reported ∙ take_all r.report.now.text.end (file_of name text).report (let n = report_room name text in omega (arith, h.counts.report.report_end))

@@ -11,7 +11,6 @@ use Rattle.byte_texts.specs.Ascii.{ascii}
 use Rattle.edits.specs.Edits.{is_in}
 use Rattle.renumber_steps.specs.Pairs.{olds, news, repeats}
 use Rattle.renumber_steps.specs.declared.pair.Pair as Pairs
-use Rattle.byte_texts.specs.declared.texts.Text.{Text}
 use Rattle.text_lines.specs.Texts.{more, body_of}
 use Rattle.text_lines.specs.Messages.{bad_text}
 use Rattle.pair_lines.specs.Lines.{pair_line_of}
@@ -25,7 +24,7 @@ use Rattle.pair_files.specs.Messages.{faults_text, wrong_count}
 use Rattle.pair_files.specs.Files.{PairFile, no_pairs, no_text, blank_line, bad, bad_line, with_word, named, accepted, pair_line, said_line, entry_line, take_pair, pair_file_of}
 use Rattle.pair_files.specs.Holds.{HoldsPairs}
 use Rattle.pair_files.specs.Good.{is_pair, has_word, names, GoodPairs}
-use Rattle.text_lines.specs.declared.tally.Tally.{Tally}
+use Rattle.pair_files.specs.declared.reader.PairReader.{PairReader}
 use Rattle.pair_file_laws.proofs.ListLaws.{in_more, olds-more, news-more, pair_more, at_most, length-olds}
 use Rattle.pair_file_laws.proofs.SideLaws.{Side, side_more}
 use Rattle.pair_file_laws.proofs.KeepLaws.{text_keeps}
@@ -178,8 +177,8 @@ module _ (name : List ℕ) (size : ℕ) (text : List ℕ) (none : (pair_file_of 
   pairs-counted = (fair_file size name text).counted none
 
 -- the tables that are held are as good
-pub held_good : {f : PairFile} {r : Tally} {to from : List ℕ} {report : Text} (size : ℕ) → HoldsPairs f r to from report → GoodPairs f.list f.to f.from size
-    → GoodPairs f.list (λ p. get_or to p 0) (λ q. get_or from q 0) size
+pub held_good : {f : PairFile} {r : PairReader} (size : ℕ) → HoldsPairs f r → GoodPairs f.list f.to f.from size
+    → GoodPairs f.list (λ p. get_or r.to.now p 0) (λ q. get_or r.from.now q 0) size
 held_good size h g = record {
   olds-once = g.olds-once;
   news-once = g.news-once;

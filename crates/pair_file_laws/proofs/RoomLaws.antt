@@ -10,7 +10,6 @@ use lib.Dec.{eqb, ltb}
 use lib.ListN.{length, take, length-append}
 use lib.Seq.{take_all}
 use Rattle.byte_texts.specs.Ascii.{ascii}
-use Rattle.byte_texts.specs.declared.texts.Text.{Text}
 use Rattle.text_lines.specs.Texts.{more, body_of}
 use Rattle.text_lines.specs.Messages.{bad_text}
 use Rattle.text_lines.proofs.MessageLaws.{decimal_short}
@@ -26,7 +25,7 @@ use Rattle.pair_lines.specs.declared.pair.Pair.{Pair}
 use Rattle.pair_files.specs.Messages.{named_text, beyond_text, named_fault, beyond_fault, faults_text, wrong_count}
 use Rattle.pair_files.specs.Files.{PairFile, no_text, blank_line, bad, bad_line, named, accepted, pair_line, said_line, entry_line, take_pair, pair_file_of}
 use Rattle.pair_files.specs.Holds.{HoldsPairs}
-use Rattle.text_lines.specs.declared.tally.Tally.{Tally}
+use Rattle.pair_files.specs.declared.reader.PairReader.{PairReader}
 use Rattle.pair_files.proofs.MessageLaws.{count_short}
 use Rattle.pair_file_laws.proofs.KeepLaws.{text_keeps}
 
@@ -151,13 +150,13 @@ module _ (name : List ℕ) where
         let m = mul-le-mul_right room n in
         omega (arith, h.fits)
 
-    module _ (text : List ℕ) {r : Tally} {to from : List ℕ} {report : Text} (h : HoldsPairs (pair_file_of name size text) r to from report) where
+    module _ (text : List ℕ) {r : PairReader} (h : HoldsPairs (pair_file_of name size text) r) where
       -- a report that ends before its buffer is whole
-      pub held_report : report.end < length report.out.now → take report.end report.out.now ≡ (pair_file_of name size text).report
-      held_report l = h.counts.report.reported ∙ take_all report.end (pair_file_of name size text).report (omega (arith, h.counts.report.report_end))
+      pub held_report : r.report.now.text.end < length r.report.now.text.out.now → take r.report.now.text.end r.report.now.text.out.now ≡ (pair_file_of name size text).report
+      held_report l = h.counts.report.reported ∙ take_all r.report.now.text.end (pair_file_of name size text).report (omega (arith, h.counts.report.report_end))
 
       -- and so is any in a buffer of that room
-      pub held_room : 20 * room ≤ length report.out.now → take report.end report.out.now ≡ (pair_file_of name size text).report
+      pub held_room : 20 * room ≤ length r.report.now.text.out.now → take r.report.now.text.end r.report.now.text.out.now ≡ (pair_file_of name size text).report
       held_room l =
           h.counts.report.reported
-          ∙ take_all report.end (pair_file_of name size text).report (let n = report_room text in omega (arith, h.counts.report.report_end))
+          ∙ take_all r.report.now.text.end (pair_file_of name size text).report (let n = report_room text in omega (arith, h.counts.report.report_end))

@@ -8,7 +8,8 @@ use Rattle.byte_texts.specs.Texts.{decimal_of, visible, dots, shown_text}
 use Rattle.offset_lines.specs.Lines.{is_blank, is_digit, digit_value, drop_blanks, digits_of, after_digits, value_of, starts_with, is_text, is_void, fault_text, held_value, said_of, said_number, complete_text, text_of, without_return, has_return, line_by}
 use Rattle.text_lines.specs.Texts.{more, body_of, take_byte, take_bytes, at_end}
 use Rattle.text_lines.specs.Messages.{bad_text}
-use Rattle.pair_lines.specs.Lines.{base_of, bare_of, size_of, number_of, after_number, pair_of, second_of, pair_text, pair_line_of}
+use Rattle.offset_lines.specs.Numbers.{base_of, bare_of, size_of, number_of, after_number}
+use Rattle.pair_lines.specs.Lines.{pair_of, second_of, pair_text, pair_line_of}
 use Rattle.pair_files.specs.Messages.{named_text, beyond_text, named_fault, beyond_fault, faults_text, wrong_count}
 use Rattle.pair_files.specs.Files.{PairFile, blank_line, bad, bad_line, with_word, named, accepted, pair_line, said_line, entry_line, no_text, take_pair, pair_file_of}
 

@@ -59,8 +59,8 @@ impl Naming {
     pub(crate) fn append_faults(self, report: &mut FileReport, size: usize)
         ensures { Says report.old report.new (faults_text report.old.name report.old.tally.lines size self.pair.old self.pair.new self.was self.came) }
     {
-        append_named_fault(report, b": old offset ", self.pair.old, self.was);
-        append_named_fault(report, b": new offset ", self.pair.new, self.came);
-        append_beyond_fault(report, self.pair.new, size);
+        append_named_fault(report, b": old offset ", self.pair.old as usize, self.was);
+        append_named_fault(report, b": new offset ", self.pair.new as usize, self.came);
+        append_beyond_fault(report, self.pair.new as usize, size);
     }
 }

@@ -15,6 +15,6 @@ impl Naming {
     pub(crate) fn passes(self, size: usize) -> bool
         ensures { result ≡ (eqb self.was 0 && (eqb self.came 0 && ltb self.pair.new size)) }
     {
-        self.was == 0 && self.came == 0 && self.pair.new < size
+        self.was == 0 && self.came == 0 && (self.pair.new as usize) < size
     }
 }

@@ -1,7 +1,7 @@
-ghost use Rattle.std.specs.Prelude.{◌≡◌, cond, ℕ, ◌<◌, eqb, length, get_or, set};
+ghost use Rattle.std.specs.Prelude.{◌≡◌, cond, ℕ, eqb, length, get_or, set};
 ghost use Rattle.text_lines.specs.Messages.{reason_text};
 ghost use Rattle.text_lines.specs.Readers.{Makes};
-ghost use Rattle.pair_files.specs.Files.{PairFile, no_pairs, blank_line, bad_line, said_line, bad, named, accepted, pair_line};
+ghost use Rattle.pair_files.specs.Files.{no_pairs, blank_line, bad_line, said_line, bad, named, accepted, pair_line};
 ghost use Rattle.pair_files.specs.Holds.{kept, HoldsPairs};
 ghost use Rattle.pair_files.specs.Messages.{faults_text};
 
@@ -58,19 +58,12 @@ impl<'a, 'b> PairReader<'a, 'b> {
 
     // A line that names a pair, each of its offsets where no earlier line names it.
     fn name_pair(&mut self, pair: Pair)
-        ensures same { kept self.new ≡ kept self.old }
-        ensures held { (f : PairFile) → pair.old < 65536 → pair.new < 65536 → HoldsPairs f self.old → HoldsPairs (named pair.old pair.new f) self.new }
+        ensures { Makes kept HoldsPairs (named pair.old pair.new) self.old self.new }
     {
-        if self.to.len() <= pair.old {
-            return;
-        }
-        if self.from.len() <= pair.new {
-            return;
-        }
         let lines = more(self.report.tally.lines);
         let line = lines as u64 * 65536;
-        name_offset(self.to, pair.old, line + pair.new as u64);
-        name_offset(self.from, pair.new, line + pair.old as u64);
+        name_offset(self.to, pair.old as usize, line + pair.new as u64);
+        name_offset(self.from, pair.new as usize, line + pair.old as u64);
         self.report.tally.lines = lines;
     }
 
@@ -94,26 +87,20 @@ impl<'a, 'b> PairReader<'a, 'b> {
 
     // Two offsets: none may stand behind the last line of a list.
     pub(crate) fn pair_line(&mut self, body: &[u8], pair: Pair)
-        ensures same { kept self.new ≡ kept self.old }
-        ensures held { (f : PairFile) → pair.old < 65536 → pair.new < 65536
-            → HoldsPairs f self.old → HoldsPairs (pair_line self.old.report.now.name body.now self.old.size pair.old pair.new f) self.new }
+        ensures { Makes kept HoldsPairs (pair_line self.old.report.now.name body.now self.old.size pair.old pair.new) self.old self.new }
     {
         if self.report.tally.said {
-            return self.bad_line(
-                body,
-                Reason::Words(b"a pair behind the last line of a list"),
-            );
+            let reason = Reason::Words(b"a pair behind the last line of a list");
+            return self.bad_line(body, reason);
         }
-        if self.to.len() <= pair.old {
-            return;
-        }
-        if self.from.len() <= pair.new {
+        let (old, new) = (pair.old as usize, pair.new as usize);
+        if self.to.len() <= old || self.from.len() <= new {
             return;
         }
         let naming = Naming {
             pair,
-            was: self.to[pair.old],
-            came: self.from[pair.new],
+            was: self.to[old],
+            came: self.from[new],
         };
         let passes = naming.passes(self.size);
         self.name_pair(pair);

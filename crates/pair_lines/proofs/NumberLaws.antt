@@ -3,10 +3,11 @@ use mathlib.Core.Path.{◌≡◌, refl, ap, ap₂, ◌∙◌}
 use mathlib.Core.Bool.{true, false, cond, ◌||◌}
 use mathlib.Core.List.{List}
 use mathlib.Core.Logic.{◌⊎◌, inl, inr}
-use Prim.Native.Nat.{ℕ}
-use borrow.Author.Tests.{leb-true, leb-false, le-ltb, lt-ltb}
+use Prim.Native.Nat.{ℕ, ◌<◌}
+use borrow.Author.Tests.{ltb-true, leb-true, leb-false, le-ltb, lt-ltb}
 use lib.Dec.{eqb, leb, ltb}
-use Rattle.std.specs.Prelude.{Option, Result, Ok, Err}
+use Rattle.std.specs.Prelude.{Option, Some, None, Result, Ok, Err, IfOk}
+use Rattle.std.proofs.lemmas.Result.{IfOk-at_ok}
 use Rattle.offset_lines.specs.Lines.{drop_blanks, held_value, offset_of}
 use Rattle.offset_lines.specs.Held.{held_offset}
 use Rattle.offset_lines.specs.declared.entry.Fault.{Fault}
@@ -47,3 +48,17 @@ module _ (text : List ℕ) where
   pub pair_is : {m n : ℕ} {more : List ℕ} {p : Result Pair Fault} → m ≡ size_of text → more ≡ second_of text → n ≡ size_of more
       → p ≡ pair_of m (number_of text) n (number_of (second_of text)) → p ≡ pair_of (size_of text) (number_of text) (size_of (second_of text)) (number_of (second_of text))
   pair_is a s b e = e ∙ ap₂ (λ (x y : ℕ). pair_of x (number_of text) y (number_of (second_of text))) a (b ∙ ap size_of s)
+
+-- ---- an offset fits in 16 bits
+
+offset_if : (value : Option ℕ) → IfOk (held_offset value) (λ o. o < 65536)
+unfolding held_offset offset_of
+offset_if (Some v) = go (yes_no (ltb v 65536))
+  where
+    go : (ltb v 65536 ≡ true) ⊎ (ltb v 65536 ≡ false) → IfOk (cond (ltb v 65536) (Ok v) (Err TooLarge)) (λ o. o < 65536)
+    go (inl h) = rw h (ltb-true v 65536 h)
+    go (inr h) = rw h tt
+offset_if None = tt
+
+pub offset_small : (value : Option ℕ) (offset : ℕ) → held_offset value ≡ Ok offset → offset < 65536
+offset_small value offset e = IfOk-at_ok (λ o. o < 65536) e (offset_if value)

@@ -2,7 +2,7 @@
 use Rattle.std.specs.Prelude.{cond, ◌||◌, List, ℕ, eqb, leb, Result, Ok, Err}
 use Rattle.byte_texts.specs.Ascii.{ascii}
 use Rattle.offset_lines.specs.Lines.{drop_blanks, is_void, line_by}
-unfoldable pub use Rattle.offset_lines.specs.Numbers.{base_of, bare_of, size_of, number_of, after_number}
+use Rattle.offset_lines.specs.Numbers.{size_of, number_of, after_number}
 use Rattle.offset_lines.specs.declared.entry.Entry.{Entry}
 use Rattle.offset_lines.specs.declared.entry.Fault.{Fault}
 use Rattle.offset_lines.specs.declared.entry.Fault.TheVariants.{NotTwoNumbers, TooLarge}

@@ -19,7 +19,10 @@ fn pair_of(first: Digits, second: Digits) -> Result<Pair, Fault>
     }
     let old = offset_of(first.value)?;
     let new = offset_of(second.value)?;
-    Ok(Pair { old, new })
+    Ok(Pair {
+        old: old as u16,
+        new: new as u16,
+    })
 }
 
 // The pair that a text names.

@@ -1,6 +1,6 @@
-// An old offset and a new one, as they index tables. `renumber_steps::Pair` has the layout of the C interface.
+// An old offset and a new one. `renumber_steps::Pair` has the layout of the C interface.
 #[derive(Clone, Copy)]
 pub struct Pair {
-    pub old: usize,
-    pub new: usize,
+    pub old: u16,
+    pub new: u16,
 }

@@ -1,4 +1,4 @@
-ghost use Rattle.std.specs.Prelude.{◌≡◌, ◌++◌};
+ghost use Rattle.std.specs.Prelude.{◌≡◌, ◌++◌, false};
 ghost use Rattle.byte_texts.specs.Ascii.{ascii};
 ghost use Rattle.byte_texts.specs.Texts.{decimal};
 ghost use Rattle.text_lines.specs.Messages.{bad_text, reason_text};
@@ -22,7 +22,11 @@ pub struct FileReport<'a> {
 impl<'a> FileReport<'a> {
     // Nothing is read.
     pub fn new(name: ShownName, out: &'a mut [u8]) -> FileReport<'a>
-        ensures { result.name ≡ name }
+        ensures name { result.name ≡ name }
+        ensures none { result.tally ≡ record { lines = 0; named = 0; said = false; bads = 0 } }
+        ensures same_buffer { result.text.out.ghost_name ≡ out.entry.ghost_name }
+        ensures same_bytes { result.text.out.now ≡ out.old }
+        ensures empty { result.text.end ≡ 0 }
     {
         FileReport {
             name,
@@ -66,8 +70,9 @@ impl<'a> FileReport<'a> {
     pub fn bad_line(&mut self, body: &[u8], reason: Reason)
         ensures { Makes kept HoldsReport (bad_counts self.old.name body.now (reason_text reason.entry)) self.old self.new }
     {
+        let line = more(self.tally.lines);
         let bads = self.tally.bads;
-        self.tally.lines = more(self.tally.lines);
+        self.tally.lines = line;
         self.tally.bads = more(bads);
         if bads < 20 {
             self.append_bad(reason, body);

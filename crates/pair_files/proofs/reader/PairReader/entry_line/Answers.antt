@@ -1,7 +1,5 @@
-use mathlib.Core.Path.{sym, ap, ◌∙◌}
-use Rattle.std.specs.Prelude.{Ok}
+use mathlib.Core.Path.{sym}
 use Rattle.text_lines.specs.Messages.{reason_text}
-use Rattle.pair_lines.proofs.LineLaws.{pair_below}
 use Rattle.pair_files.specs.Files.{entry_line}
 use Rattle.pair_files.proofs.reader.PairReader.entry_line.Goals as goal
 
@@ -11,10 +9,7 @@ returns-in-Ok-Blank c = rw (sym c.parse_pair.ensures, c.in-Ok-Blank.is, c.in-Ok-
 
 pub returns-in-Ok-Item : goal.returns-in-Ok-Item
 unfolding entry_line
-returns-in-Ok-Item c =
-    let is = sym c.parse_pair.ensures ∙ c.in-Ok-Item.is ∙ ap Ok c.in-Ok-Item.field-0-is in
-    let small = pair_below _ _ is in
-    rw is (record { same = c.pair_line.ensures.same; holds = λ f h. c.pair_line.ensures.held f small.0 small.1 h })
+returns-in-Ok-Item c = rw (sym c.parse_pair.ensures, c.in-Ok-Item.is, c.in-Ok-Item.field-0-is) c.pair_line.ensures
 
 pub returns-in-Ok-Says : goal.returns-in-Ok-Says
 unfolding entry_line

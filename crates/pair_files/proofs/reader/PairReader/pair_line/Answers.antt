@@ -6,29 +6,23 @@ use Rattle.pair_files.specs.Holds.{Kept}
 use Rattle.pair_files.proofs.ChoiceLaws.{pair_said, pair_accepted, pair_refused}
 use Rattle.pair_files.proofs.reader.PairReader.pair_line.Goals as goal
 
-pub returns-then-self-clause-held : goal.returns-then-self-clause-held
+pub returns-then-self : goal.returns-then-self
 unfolding ascii reason_text
-returns-then-self-clause-held c = λ f l m h. pair_said h _ _ _ _ _ c.if-self.true (c.bad_line.ensures.holds f h)
+returns-then-self c = record { same = c.bad_line.ensures.same; holds = λ f h. pair_said h _ _ _ _ _ c.if-self.true (c.bad_line.ensures.holds f h) }
 
-pub returns-then-self-pair-clause-held : goal.returns-then-self-pair-clause-held
-returns-then-self-pair-clause-held c = λ f l m h. absurd (omega (arith, l, h.to_long, c.if-self-pair.true))
+pub returns-then-passes : goal.returns-then-passes
+returns-then-passes c =
+    let a = c.accept_pair.ensures c.args.pair.old c.args.pair.new in
+    record {
+      same = a.same ∙ c.name_pair.ensures.same;
+      holds = λ f h. pair_accepted h _ _ _ _ _ (omega arith) (omega arith) refl refl c.passes-passes.ensures c.if-self.false c.if-passes.true (a.holds _ (c.name_pair.ensures.holds f h));
+    }
 
-pub returns-then-self-pair-2-clause-held : goal.returns-then-self-pair-2-clause-held
-returns-then-self-pair-2-clause-held c = λ f l m h. absurd (omega (arith, m, h.from_long, c.if-self-pair-2.true))
-
-pub returns-then-passes-clause-same : goal.returns-then-passes-clause-same
-returns-then-passes-clause-same c = (c.accept_pair.ensures 0 0).same ∙ c.name_pair.ensures.same
-
-pub returns-then-passes-clause-held : goal.returns-then-passes-clause-held
-returns-then-passes-clause-held c =
-    λ f l m h. pair_accepted h _ _ _ _ _ l m refl refl c.passes-passes.ensures c.if-self.false c.if-passes.true ((c.accept_pair.ensures _ _).holds _ (c.name_pair.ensures.held f l m h))
-
-pub returns-else-passes-clause-same : goal.returns-else-passes-clause-same
-returns-else-passes-clause-same c = c.refuse_pair.ensures.same ∙ c.name_pair.ensures.same
-
-pub returns-else-passes-clause-held : goal.returns-else-passes-clause-held
-returns-else-passes-clause-held c =
-    λ f l m h.
-    pair_refused h _ _ _ _ _ l m refl refl c.passes-passes.ensures c.if-self.false c.if-passes.false
-    (let g = c.refuse_pair.ensures.holds _ (c.name_pair.ensures.held f l m h) in
-    rw (ap (λ (k : Kept). k.of.name) c.name_pair.ensures.same, ap (λ (k : Kept). k.size) c.name_pair.ensures.same) at g)
+pub returns-else-passes : goal.returns-else-passes
+returns-else-passes c = record {
+  same = c.refuse_pair.ensures.same ∙ c.name_pair.ensures.same;
+  holds = λ f h.
+      pair_refused h _ _ _ _ _ (omega arith) (omega arith) refl refl c.passes-passes.ensures c.if-self.false c.if-passes.false
+      (let g = c.refuse_pair.ensures.holds _ (c.name_pair.ensures.holds f h) in
+      rw (ap (λ (k : Kept). k.of.name) c.name_pair.ensures.same, ap (λ (k : Kept). k.size) c.name_pair.ensures.same) at g);
+}

@@ -7,11 +7,11 @@ returns-then-bads-lt20 c =
     let a = c.append_bad.ensures in
     record {
       same = rw (a.name, a.text.buffer) refl;
-      holds = λ f h. rw (a.tally, c.more-self.ensures, c.more-self-2.ensures) (bad_said h _ _ _ c.if-bads-lt20.true (rw c.more-self.ensures at a.text));
+      holds = λ f h. rw (a.tally, c.more-line.ensures, c.more-self.ensures) (bad_said h _ _ _ c.if-bads-lt20.true (rw c.more-line.ensures at a.text));
     }
 
 pub returns-else-bads-lt20 : goal.returns-else-bads-lt20
 returns-else-bads-lt20 c = record {
   same = refl;
-  holds = λ f h. rw (c.more-self.ensures, c.more-self-2.ensures) (bad_unsaid h _ _ _ c.if-bads-lt20.false);
+  holds = λ f h. rw (c.more-line.ensures, c.more-self.ensures) (bad_unsaid h _ _ _ c.if-bads-lt20.false);
 }
