@@ -78,7 +78,7 @@ impl<'a, 'b> OffsetReader<'a, 'b> {
         }
     }
 
-    // An offset: none may stand behind the last line of a list.
+    // An offset: none may stand behind the last line of a list. Any may be handed in, so that the bound is in this clause and in those of the two above and not in a narrower type.
     pub fn offset_line(&mut self, body: &[u8], offset: usize)
         ensures same { kept self.new ≡ kept self.old }
         ensures held { (f : File) → offset < 65536 → HoldsFile f self.old → HoldsFile (offset_line self.old.report.now.name body.now offset f) self.new }

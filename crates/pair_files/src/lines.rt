@@ -9,7 +9,7 @@ use pair_lines::parse_pair;
 use text_lines::{LineReader, Reason, body_of};
 
 impl<'a, 'b> PairReader<'a, 'b> {
-    // A line by what it is.
+    // A line by what it is: as in `offset_files`, with another parser. A trait over both would have a method for each line of this match.
     fn entry_line(&mut self, body: &[u8])
         ensures { Makes kept HoldsPairs (entry_line self.old.report.now.name body.now self.old.size (pair_line_of body.now)) self.old self.new }
     {
