@@ -21,7 +21,7 @@ fn said_of(digits: Digits, items: Items, word: &[u8]) -> Option<usize>
 }
 
 // The number that stands behind `# complete:` with the word for one or for many; none where it is damaged.
-pub(crate) fn said_number(rest: &[u8], items: Items) -> Option<usize>
+pub fn said_number(rest: &[u8], items: Items) -> Option<usize>
     ensures { result ≡ said_number items.entry.one.now items.entry.many.now rest.now }
 {
     let text = rest.strip_prefix(b" ".as_slice())?;

@@ -22,7 +22,7 @@ pub(crate) fn without_return(line: &[u8]) -> &[u8]
 }
 
 // Whether a carriage return is there.
-pub(crate) fn has_return(text: &[u8]) -> bool
+pub fn has_return(text: &[u8]) -> bool
     ensures { result ≡ has_return text.now }
 {
     text.contains(&b'\r')
