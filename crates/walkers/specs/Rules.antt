@@ -1,4 +1,4 @@
--- A walker of `ones`: the set's words beside its record, and the set's length.
+-- A walker of `ones`: the set's words beside the set and the record of the part that is left.
 use Rattle.std.specs.Prelude.{List, ℕ}
 use Rattle.std.specs.Borrow.{Bor}
 use Rattle.sets.specs.declared.fixed_bit_set.FixedBitSet.{FixedBitSet}
@@ -8,21 +8,13 @@ use Rattle.sets.specs.declared.answers.Part.{Part}
 use Rattle.walks.specs.Rules.{Stepped, ones_next_rule, ones_next_back_rule}
 use Rattle.walkers.specs.declared.walker.Ones.{Ones}
 
--- the set that a walker goes over
-abbrev pub set_in : Ones → FixedBitSet
-set_in w = record { length = w.length }
-
--- the record of the part that is left to it
-abbrev pub part_in : Ones → Part
-part_in w = record { low = w.low; high = w.high }
-
 -- over the lent words, at first 0 and L
 abbrev pub first_walker : FixedBitSet → Bor (List ℕ) → Ones
-first_walker set ws = record { words = ws; length = set.length; low = 0; high = set.length }
+first_walker set ws = record { words = ws; set = set; part = record { low = 0; high = set.length } }
 
 -- the same set, at another record
 abbrev pub moved_walker : Ones → Part → Ones
-moved_walker w part = record { words = w.words; length = w.length; low = part.low; high = part.high }
+moved_walker w part = record { words = w.words; set = w.set; part = part }
 
 -- the step of `ones` at that end
 abbrev pub walker_rule : FixedBitSet → List ℕ → Part → End → Stepped

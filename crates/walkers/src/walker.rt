@@ -1,18 +1,17 @@
 ghost use Rattle.std.specs.Prelude.{◌≡◌};
 ghost use Rattle.walks.specs.Rules.{stepped_of, ones_next_rule, ones_next_back_rule};
-ghost use Rattle.walkers.specs.Rules.{walker_rule, first_walker, moved_walker, set_in, part_in};
+ghost use Rattle.walkers.specs.Rules.{walker_rule, first_walker, moved_walker};
 
 use parts::{End, Step};
 use sets::{FixedBitSet, Part, Refusal};
-use walks::{ones_next, ones_next_back};
+use walks::{first_part, ones_next, ones_next_back};
 
-// What is left of the walk is from low up to high, as in a part's record.
+// What is left of the walk is the part.
 #[derive(Clone, Copy)]
 pub struct Ones<'a> {
     pub words: &'a [u64],
-    pub length: usize,
-    pub low: usize,
-    pub high: usize,
+    pub set: FixedBitSet,
+    pub part: Part,
 }
 
 // No `Iterator`: the specification has thin steps over the step by value, and each gives what is left beside the position.
@@ -23,9 +22,8 @@ impl<'a> Ones<'a> {
     {
         Ones {
             words,
-            length: set.length,
-            low: 0,
-            high: set.length,
+            set,
+            part: first_part(set),
         }
     }
 
@@ -33,35 +31,26 @@ impl<'a> Ones<'a> {
     pub fn moved(self, part: Part) -> Ones<'a>
         ensures { result ≡ moved_walker self.entry part }
     {
-        Ones {
-            low: part.low,
-            high: part.high,
-            ..self
-        }
+        Ones { part, ..self }
     }
 
     fn step(self, end: End) -> Result<Step, Refusal>
-        ensures { stepped_of (part_in self.entry) result ≡ walker_rule (set_in self.entry) self.entry.words.now (part_in self.entry) end }
+        ensures { stepped_of self.entry.part result ≡ walker_rule self.entry.set self.entry.words.now self.entry.part end }
     {
-        let set = FixedBitSet::new(self.length);
-        let part = Part {
-            low: self.low,
-            high: self.high,
-        };
         match end {
-            End::Front => ones_next(set, self.words, part),
-            End::Back => ones_next_back(set, self.words, part),
+            End::Front => ones_next(self.set, self.words, self.part),
+            End::Back => ones_next_back(self.set, self.words, self.part),
         }
     }
 
     pub fn next(self) -> Result<Step, Refusal>
-        ensures { stepped_of (part_in self.entry) result ≡ ones_next_rule (set_in self.entry) self.entry.words.now (part_in self.entry) }
+        ensures { stepped_of self.entry.part result ≡ ones_next_rule self.entry.set self.entry.words.now self.entry.part }
     {
         self.step(End::Front)
     }
 
     pub fn next_back(self) -> Result<Step, Refusal>
-        ensures { stepped_of (part_in self.entry) result ≡ ones_next_back_rule (set_in self.entry) self.entry.words.now (part_in self.entry) }
+        ensures { stepped_of self.entry.part result ≡ ones_next_back_rule self.entry.set self.entry.words.now self.entry.part }
     {
         self.step(End::Back)
     }
