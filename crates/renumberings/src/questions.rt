@@ -5,7 +5,7 @@ ghost use Rattle.renumber_steps.specs.Pairs.{sided, olds};
 ghost use Rattle.renumber_steps.specs.Rules.{pairs_questions};
 ghost use Rattle.renumber_steps.specs.Passes.{Taken, shared};
 
-use crate::answers::{members_marked, pairs_number};
+use crate::answers::members_marked;
 use crate::finds::{has_beyond, repeats_above};
 use crate::passes::mark_olds;
 use range_counts::ones_of_words;
@@ -37,9 +37,15 @@ pub(crate) fn ask_pairs<S: Side>(
     ensures { number_of result ≡ pairs_questions (sided S.back pairs.now) bits (members set.entry) }
 {
     let mut marks = [0u64; 1024];
-    let old = shares::<S>(pairs, &mut marks);
+    if shares::<S>(pairs, &mut marks) {
+        return Err(Refusal::SharedOld);
+    }
     let paired = members_marked(set, &marks);
-    let new = shares::<Swapped<S>>(pairs, &mut marks);
-    let beyond = has_beyond::<Swapped<S>>(pairs, bits);
-    pairs_number(old, new, beyond, paired)
+    if shares::<Swapped<S>>(pairs, &mut marks) {
+        return Err(Refusal::SharedNew);
+    }
+    if has_beyond::<Swapped<S>>(pairs, bits) {
+        return Err(Refusal::Position);
+    }
+    if paired { Ok(()) } else { Err(Refusal::NoPair) }
 }
