@@ -10,7 +10,7 @@ use edits::insert;
 use sets::FixedBitSet;
 use text_lines::{Reason, Tally, more};
 
-impl<'a, 'b> OffsetReader<'a, 'b> {
+impl<'a, 'n, 'b> OffsetReader<'a, 'n, 'b> {
     // Nothing is read. The words, the table and the report are cleared.
     pub fn start(&mut self)
         ensures same { kept self.new ≡ kept self.old }
@@ -25,31 +25,35 @@ impl<'a, 'b> OffsetReader<'a, 'b> {
 
     // A line with nothing to say.
     pub fn blank_line(&mut self)
-        ensures { Makes kept HoldsFile blank_line self.old self.new }
+        ensures same { (self.new.words ≡ self.old.words) × (self.new.table ≡ self.old.table) × (self.new.report.now.text ≡ self.old.report.now.text) }
+        ensures made { Makes kept HoldsFile blank_line self.old self.new }
     {
         self.report.blank_line();
     }
 
     // A line that may not stand there.
     pub fn bad_line(&mut self, body: &[u8], reason: Reason)
-        ensures { Makes kept HoldsFile (bad_line self.old.report.now.name body.now (reason_text reason.entry)) self.old self.new }
+        ensures same { (self.new.words ≡ self.old.words) × (self.new.table ≡ self.old.table) }
+        ensures made { Makes kept HoldsFile (bad_line self.old.report.now.name.now body.now (reason_text reason.entry)) self.old self.new }
     {
         self.report.bad_line(body, reason);
     }
 
     // The last line of a list.
     pub fn said_line(&mut self, body: &[u8], says: usize)
-        ensures { Makes kept HoldsFile (said_line self.old.report.now.name body.now says) self.old self.new }
+        ensures same { (self.new.words ≡ self.old.words) × (self.new.table ≡ self.old.table) }
+        ensures made { Makes kept HoldsFile (said_line self.old.report.now.name.now body.now says) self.old self.new }
     {
         self.report.said_line(body, says, b" offsets and names ");
     }
 
     // An offset that no earlier line names: it becomes a member, and the table has its line.
     #[tactic(auto, unfolding(text_lines::specs::Texts::more))]
-    fn new_offset(&mut self, offset: usize)
+    fn new_offset(&mut self, offset: u16)
         ensures same { kept self.new ≡ kept self.old }
-        ensures held { (f : File) → offset < 65536 → f.first offset ≡ 0 → HoldsFile f self.old → HoldsFile (new_offset offset f) self.new }
+        ensures held { (f : File) → f.first offset ≡ 0 → HoldsFile f self.old → HoldsFile (new_offset offset f) self.new }
     {
+        let offset = offset as usize;
         if self.table.len() <= offset {
             return;
         }
@@ -61,10 +65,11 @@ impl<'a, 'b> OffsetReader<'a, 'b> {
     }
 
     // An offset that one earlier line names: the table has that it is named again.
-    fn second_naming(&mut self, offset: usize)
+    fn second_naming(&mut self, offset: u16)
         ensures same { kept self.new ≡ kept self.old }
-        ensures held { (f : File) → offset < 65536 → f.again offset ≡ false → HoldsFile f self.old → HoldsFile (second_naming self.old.report.now.name offset f) self.new }
+        ensures held { (f : File) → f.again offset ≡ false → HoldsFile f self.old → HoldsFile (second_naming self.old.report.now.name.now offset f) self.new }
     {
+        let offset = offset as usize;
         if self.table.len() <= offset {
             return;
         }
@@ -78,25 +83,25 @@ impl<'a, 'b> OffsetReader<'a, 'b> {
         }
     }
 
-    // An offset: none may stand behind the last line of a list. Any may be handed in, so that the bound is in this clause and in those of the two above and not in a narrower type.
+    // An offset: none may stand behind the last line of a list. Any may be handed in, so that the bound is in this clause and not in a narrower type.
     pub fn offset_line(&mut self, body: &[u8], offset: usize)
         ensures same { kept self.new ≡ kept self.old }
-        ensures held { (f : File) → offset < 65536 → HoldsFile f self.old → HoldsFile (offset_line self.old.report.now.name body.now offset f) self.new }
+        ensures held { (f : File) → offset < 65536 → HoldsFile f self.old → HoldsFile (offset_line self.old.report.now.name.now body.now offset f) self.new }
     {
         if self.report.tally.said {
             let reason = Reason::Words(b"an offset behind the last line of a list");
             return self.bad_line(body, reason);
         }
-        if self.table.len() <= offset {
+        if self.table.len() <= offset || 65536 <= offset {
             return;
         }
         let entry = self.table[offset];
         if entry < 2 {
-            return self.new_offset(offset);
+            return self.new_offset(offset as u16);
         }
         if entry % 2 == 1 {
             return self.blank_line();
         }
-        self.second_naming(offset);
+        self.second_naming(offset as u16);
     }
 }

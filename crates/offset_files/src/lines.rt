@@ -7,10 +7,10 @@ use crate::reader::OffsetReader;
 use offset_lines::{Entry, parse_line};
 use text_lines::{LineReader, Reason, body_of};
 
-impl<'a, 'b> OffsetReader<'a, 'b> {
+impl<'a, 'n, 'b> OffsetReader<'a, 'n, 'b> {
     // A line by what it is.
     fn entry_line(&mut self, body: &[u8])
-        ensures { Makes kept HoldsFile (entry_line self.old.report.now.name body.now (line_of body.now)) self.old self.new }
+        ensures { Makes kept HoldsFile (entry_line self.old.report.now.name.now body.now (line_of body.now)) self.old self.new }
     {
         match parse_line(body) {
             Ok(Entry::Blank) => self.blank_line(),
@@ -21,7 +21,7 @@ impl<'a, 'b> OffsetReader<'a, 'b> {
     }
 }
 
-impl<'a, 'b> LineReader for OffsetReader<'a, 'b> {
+impl<'a, 'n, 'b> LineReader for OffsetReader<'a, 'n, 'b> {
     ghost Kept = { Kept };
 
     ghost kept = { kept };

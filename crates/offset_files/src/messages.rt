@@ -7,7 +7,7 @@ use text_lines::FileReport;
 
 // An offset that an earlier line named.
 pub(crate) fn append_repeat(report: &mut FileReport, offset: usize, first: u64)
-    ensures { Says report.old report.new (repeat_text report.old.name report.old.tally.lines offset first) }
+    ensures { Says report.old report.new (repeat_text report.old.name.now report.old.tally.lines offset first) }
 {
     report.append_place(b"warning: ");
     report.text.append(b": offset ");

@@ -8,10 +8,10 @@ use offset_lines::Entry;
 use pair_lines::parse_pair;
 use text_lines::{LineReader, Reason, body_of};
 
-impl<'a, 'b> PairReader<'a, 'b> {
+impl<'a, 'n, 'b> PairReader<'a, 'n, 'b> {
     // A line by what it is: as in `offset_files`, with another parser. A trait over both would have a method for each line of this match.
     fn entry_line(&mut self, body: &[u8])
-        ensures { Makes kept HoldsPairs (entry_line self.old.report.now.name body.now self.old.size (pair_line_of body.now)) self.old self.new }
+        ensures { Makes kept HoldsPairs (entry_line self.old.report.now.name.now body.now self.old.size (pair_line_of body.now)) self.old self.new }
     {
         match parse_pair(body) {
             Ok(Entry::Blank) => self.blank_line(),
@@ -22,7 +22,7 @@ impl<'a, 'b> PairReader<'a, 'b> {
     }
 }
 
-impl<'a, 'b> LineReader for PairReader<'a, 'b> {
+impl<'a, 'n, 'b> LineReader for PairReader<'a, 'n, 'b> {
     ghost Kept = { Kept };
 
     ghost kept = { kept };

@@ -8,7 +8,7 @@ use text_lines::FileReport;
 
 // An offset of a side that an earlier line named.
 fn append_named(report: &mut FileReport, side: &[u8], offset: usize, first: u64)
-    ensures { Says report.old report.new (named_text report.old.name report.old.tally.lines side.now offset first) }
+    ensures { Says report.old report.new (named_text report.old.name.now report.old.tally.lines side.now offset first) }
 {
     report.append_place(b"ERROR: ");
     report.text.append(side);
@@ -20,7 +20,7 @@ fn append_named(report: &mut FileReport, side: &[u8], offset: usize, first: u64)
 
 // A new offset that is not below the length.
 fn append_beyond(report: &mut FileReport, offset: usize, size: usize)
-    ensures { Says report.old report.new (beyond_text report.old.name report.old.tally.lines offset size) }
+    ensures { Says report.old report.new (beyond_text report.old.name.now report.old.tally.lines offset size) }
 {
     report.append_place(b"ERROR: ");
     report.text.append(b": new offset ");
@@ -33,7 +33,7 @@ fn append_beyond(report: &mut FileReport, offset: usize, size: usize)
 // The offset's fault, if its word of the table says that it was named.
 #[tactic(auto, using(byte_texts::proofs::TextLaws::written_more), unfolding(crate::specs::Messages::named_fault))]
 fn append_named_fault(report: &mut FileReport, side: &[u8], offset: usize, word: u64)
-    ensures { Says report.old report.new (named_fault report.old.name report.old.tally.lines side.now offset word) }
+    ensures { Says report.old report.new (named_fault report.old.name.now report.old.tally.lines side.now offset word) }
 {
     if word == 0 {
         report.text.append(b"");
@@ -45,7 +45,7 @@ fn append_named_fault(report: &mut FileReport, side: &[u8], offset: usize, word:
 // The new offset's fault, if it is not below the length.
 #[tactic(auto, using(byte_texts::proofs::TextLaws::written_more), unfolding(crate::specs::Messages::beyond_fault))]
 fn append_beyond_fault(report: &mut FileReport, offset: usize, size: usize)
-    ensures { Says report.old report.new (beyond_fault report.old.name report.old.tally.lines offset size) }
+    ensures { Says report.old report.new (beyond_fault report.old.name.now report.old.tally.lines offset size) }
 {
     if offset < size {
         report.text.append(b"");
@@ -57,7 +57,7 @@ fn append_beyond_fault(report: &mut FileReport, offset: usize, size: usize)
 impl Naming {
     // All faults of the pair.
     pub(crate) fn append_faults(self, report: &mut FileReport, size: usize)
-        ensures { Says report.old report.new (faults_text report.old.name report.old.tally.lines size self.pair.old self.pair.new self.was self.came) }
+        ensures { Says report.old report.new (faults_text report.old.name.now report.old.tally.lines size self.pair.old self.pair.new self.was self.came) }
     {
         append_named_fault(report, b": old offset ", self.pair.old as usize, self.was);
         append_named_fault(report, b": new offset ", self.pair.new as usize, self.came);

@@ -23,7 +23,7 @@ fn name_offset(table: &mut [u64], offset: usize, word: u64)
     }
 }
 
-impl<'a, 'b> PairReader<'a, 'b> {
+impl<'a, 'n, 'b> PairReader<'a, 'n, 'b> {
     // Nothing is read. The tables and the report are cleared.
     pub fn start(&mut self)
         ensures same { kept self.new ≡ kept self.old }
@@ -44,14 +44,14 @@ impl<'a, 'b> PairReader<'a, 'b> {
 
     // A line that may not stand there.
     pub(crate) fn bad_line(&mut self, body: &[u8], reason: Reason)
-        ensures { Makes kept HoldsPairs (bad_line self.old.report.now.name body.now (reason_text reason.entry)) self.old self.new }
+        ensures { Makes kept HoldsPairs (bad_line self.old.report.now.name.now body.now (reason_text reason.entry)) self.old self.new }
     {
         self.report.bad_line(body, reason);
     }
 
     // The last line of a list.
     pub(crate) fn said_line(&mut self, body: &[u8], says: usize)
-        ensures { Makes kept HoldsPairs (said_line self.old.report.now.name body.now says) self.old self.new }
+        ensures { Makes kept HoldsPairs (said_line self.old.report.now.name.now body.now says) self.old self.new }
     {
         self.report.said_line(body, says, b" pairs and names ");
     }
@@ -76,7 +76,7 @@ impl<'a, 'b> PairReader<'a, 'b> {
 
     // What refuses a pair is said.
     fn refuse_pair(&mut self, naming: Naming)
-        ensures { Makes kept HoldsPairs (λ f. bad (faults_text self.old.report.now.name f.lines self.old.size naming.pair.old naming.pair.new naming.was naming.came) f) self.old self.new }
+        ensures { Makes kept HoldsPairs (λ f. bad (faults_text self.old.report.now.name.now f.lines self.old.size naming.pair.old naming.pair.new naming.was naming.came) f) self.old self.new }
     {
         let bads = self.report.tally.bads;
         self.report.tally.bads = more(bads);
@@ -87,7 +87,7 @@ impl<'a, 'b> PairReader<'a, 'b> {
 
     // Two offsets: none may stand behind the last line of a list.
     pub(crate) fn pair_line(&mut self, body: &[u8], pair: Pair)
-        ensures { Makes kept HoldsPairs (pair_line self.old.report.now.name body.now self.old.size pair.old pair.new) self.old self.new }
+        ensures { Makes kept HoldsPairs (pair_line self.old.report.now.name.now body.now self.old.size pair.old pair.new) self.old self.new }
     {
         if self.report.tally.said {
             let reason = Reason::Words(b"a pair behind the last line of a list");

@@ -8,7 +8,7 @@ use Rattle.text_lines.specs.declared.file_report.FileReport.{FileReport}
 use Rattle.text_lines.specs.declared.tally.Tally.{Tally}
 
 -- two pieces in a row are their join; the second goes by the name and by the line
-pub says_then : {a b c : FileReport} (x : List ℕ) (text : List ℕ → ℕ → List ℕ) → Says a b x → Says b c (text b.name b.tally.lines) → Says a c (x ++ text a.name a.tally.lines)
+pub says_then : {a b c : FileReport} (x : List ℕ) (text : List ℕ → ℕ → List ℕ) → Says a b x → Says b c (text b.name.now b.tally.lines) → Says a c (x ++ text a.name.now a.tally.lines)
 says_then x text h g = record {
   name = g.name ∙ h.name;
   tally = g.tally ∙ h.tally;

@@ -11,11 +11,11 @@ pub record Kept : Type 0 where
   pub buffer : GName
 
 abbrev pub kept : FileReport → Kept
-kept r = record { name = r.name; buffer = r.text.out.ghost_name }
+kept r = record { name = r.name.now; buffer = r.text.out.ghost_name }
 
 -- these bytes are said behind, and nothing else is changed
 pub record Says (before after : FileReport) (bytes : List ℕ) : Type 0 where
-  pub name : after.name ≡ before.name
+  pub name : after.name.now ≡ before.name.now
   pub tally : after.tally ≡ before.tally
   pub text : Appended before.text after.text bytes
 

@@ -16,7 +16,7 @@ pub fn body_of(lines: usize, line: &[u8]) -> &[u8]
     ensures start { result.ref_ptr ≡ (line.entry.ref_ptr.0, line.entry.ref_ptr.1 + (length line.now - length result.now)) }
 {
     if lines == 0 {
-        // Cut by a count: the contract of `strip_prefix` does not say where the rest starts, and `start` promises it.
+        // Cut by a count: the contract of `strip_prefix` does not say where the rest starts, and each returned part names its start.
         if starts_with_mark(line) {
             return &line[3..];
         }

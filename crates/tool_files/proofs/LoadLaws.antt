@@ -66,10 +66,3 @@ usable_pairs h none = record {
   from_long = h.holds.from_long;
   from-words = h.holds.from-words;
 }
-
--- the same under an equal name
-pub renamed : {name other words : List ℕ} → name ≡ other → Usable name words → Usable other words
-renamed {words = words} e h = subst (λ (n : List ℕ). Usable n words) e h
-
-pub renamed_pairs : {name other to from : List ℕ} {size : ℕ} → name ≡ other → UsablePairs name size to from → UsablePairs other size to from
-renamed_pairs {to = to} {from = from} {size = size} e h = subst (λ (n : List ℕ). UsablePairs n size to from) e h

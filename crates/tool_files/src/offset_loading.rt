@@ -14,13 +14,13 @@ use std::io::{Input, Read, Write};
 use std::rt::Files;
 use text_lines::{FileReport, Tally};
 
-// Reads a file of offsets. One call with the reader, which says of each buffer that it stays: else what the buffers hold then is unknown to the caller.
+// Reads a file of offsets. One call with the reader, which says of each of its buffers that it stays: else what they hold then is unknown to the caller. Hence one for each reader.
 fn read_offsets<F: Read>(file: &mut F, reader: &mut OffsetReader) -> Result<(), Unread>
     ensures same_words { reader.new.words.ghost_name ≡ reader.old.words.ghost_name }
     ensures same_table { reader.new.table.ghost_name ≡ reader.old.table.ghost_name }
     ensures same_report { reader.new.report.ghost_name ≡ reader.old.report.ghost_name }
     ensures whole { length reader.old.words.now ≡ 1024 → length reader.old.table.now ≡ 65536
-        → IfOk result (λ _. ReadWhole (take_line reader.old.report.now.name) no_lines (λ f. HoldsFile f reader.new)) }
+        → IfOk result (λ _. ReadWhole (take_line reader.old.report.now.name.now) no_lines (λ f. HoldsFile f reader.new)) }
 {
     reader.start();
     read_text(file, reader)
@@ -30,19 +30,19 @@ fn read_offsets<F: Read>(file: &mut F, reader: &mut OffsetReader) -> Result<(), 
 fn load_open<F: Read, E: Write>(
     file: &mut F,
     name: &[u8],
-    shown: ShownName,
     allow_empty: bool,
     err: &mut E,
     words: &mut [u64],
     table: &mut [u64],
 ) -> Result<(), Trouble>
-    ensures { OnOk result (Usable shown words.new) }
+    ensures { OnOk result (Usable (shown_name name.now) words.new) }
 {
     if words.len() != 1024 || table.len() != 65536 {
         return Err(Trouble);
     }
     let mut space = [0u8; 16384];
-    let mut report = FileReport::new(shown, &mut space);
+    let shown = ShownName::new(name);
+    let mut report = FileReport::new(shown.bytes(), &mut space);
     let mut reader = OffsetReader {
         report: &mut report,
         repeats: 0,
@@ -71,7 +71,6 @@ pub fn load<R: Files + Input, E: Write>(
 ) -> Result<(), Trouble>
     ensures { OnOk result (Usable (shown_name name.now) words.new) }
 {
-    let shown = ShownName::new(name);
     let mut file = open_file(rt, name, err)?;
-    load_open(&mut file, name, shown, allow_empty, err, words, table)
+    load_open(&mut file, name, allow_empty, err, words, table)
 }

@@ -14,13 +14,13 @@ use std::io::{Input, Read, Write};
 use std::rt::Files;
 use text_lines::{FileReport, Tally};
 
-// Reads a file of pairs. One call with the reader, which says of each buffer that it stays: else what the buffers hold then is unknown to the caller.
+// Reads a file of pairs. One call with the reader, which says of each of its buffers that it stays: else what they hold then is unknown to the caller. Hence one for each reader.
 fn read_pairs<F: Read>(file: &mut F, reader: &mut PairReader) -> Result<(), Unread>
     ensures same_to { reader.new.to.ghost_name ≡ reader.old.to.ghost_name }
     ensures same_from { reader.new.from.ghost_name ≡ reader.old.from.ghost_name }
     ensures same_report { reader.new.report.ghost_name ≡ reader.old.report.ghost_name }
     ensures whole { length reader.old.to.now ≡ 65536 → length reader.old.from.now ≡ 65536
-        → IfOk result (λ _. ReadWhole (take_pair reader.old.report.now.name reader.old.size) no_pairs (λ f. HoldsPairs f reader.new)) }
+        → IfOk result (λ _. ReadWhole (take_pair reader.old.report.now.name.now reader.old.size) no_pairs (λ f. HoldsPairs f reader.new)) }
 {
     reader.start();
     read_text(file, reader)
@@ -29,20 +29,20 @@ fn read_pairs<F: Read>(file: &mut F, reader: &mut PairReader) -> Result<(), Unre
 fn load_open_pairs<F: Read, E: Write>(
     file: &mut F,
     name: &[u8],
-    shown: ShownName,
     size: usize,
     allow_empty: bool,
     err: &mut E,
     to: &mut [u64],
     from: &mut [u64],
 ) -> Result<(), Trouble>
-    ensures { OnOk result (UsablePairs shown size to.new from.new) }
+    ensures { OnOk result (UsablePairs (shown_name name.now) size to.new from.new) }
 {
     if to.len() != 65536 || from.len() != 65536 {
         return Err(Trouble);
     }
     let mut space = [0u8; 16384];
-    let mut report = FileReport::new(shown, &mut space);
+    let shown = ShownName::new(name);
+    let mut report = FileReport::new(shown.bytes(), &mut space);
     let mut reader = PairReader {
         report: &mut report,
         size,
@@ -70,7 +70,6 @@ pub fn load_pairs<R: Files + Input, E: Write>(
 ) -> Result<(), Trouble>
     ensures { OnOk result (UsablePairs (shown_name name.now) size to.new from.new) }
 {
-    let shown = ShownName::new(name);
     let mut file = open_file(rt, name, err)?;
-    load_open_pairs(&mut file, name, shown, size, allow_empty, err, to, from)
+    load_open_pairs(&mut file, name, size, allow_empty, err, to, from)
 }

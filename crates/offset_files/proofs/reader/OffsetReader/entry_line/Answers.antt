@@ -7,7 +7,7 @@ use Rattle.offset_files.proofs.reader.OffsetReader.entry_line.Goals as goal
 
 pub returns-in-Ok-Blank : goal.returns-in-Ok-Blank
 unfolding entry_line
-returns-in-Ok-Blank c = rw (sym c.parse_line.ensures, c.in-Ok-Blank.is, c.in-Ok-Blank.field-0-is) c.blank_line.ensures
+returns-in-Ok-Blank c = rw (sym c.parse_line.ensures, c.in-Ok-Blank.is, c.in-Ok-Blank.field-0-is) c.blank_line.ensures.made
 
 pub returns-in-Ok-Item : goal.returns-in-Ok-Item
 unfolding entry_line
@@ -17,9 +17,9 @@ returns-in-Ok-Item c =
 
 pub returns-in-Ok-Says : goal.returns-in-Ok-Says
 unfolding entry_line
-returns-in-Ok-Says c = rw (sym c.parse_line.ensures, c.in-Ok-Says.is, c.in-Ok-Says.field-0-is) c.said_line.ensures
+returns-in-Ok-Says c = rw (sym c.parse_line.ensures, c.in-Ok-Says.is, c.in-Ok-Says.field-0-is) c.said_line.ensures.made
 
 pub returns-in-Err : goal.returns-in-Err
 unfolding entry_line reason_text
 returns-in-Err c =
-    rw (sym c.parse_line.ensures, c.in-Err.is) (record { same = c.bad_line.ensures.same; holds = λ f h. rw (sym c.text.ensures) (c.bad_line.ensures.holds f h) })
+    rw (sym c.parse_line.ensures, c.in-Err.is) (record { same = c.bad_line.ensures.made.same; holds = λ f h. rw (sym c.text.ensures) (c.bad_line.ensures.made.holds f h) })

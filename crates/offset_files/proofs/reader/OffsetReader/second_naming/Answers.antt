@@ -4,17 +4,11 @@ use Rattle.offset_files.proofs.EntryLaws.{first_is}
 use Rattle.offset_files.proofs.HoldsLaws.{second_said, second_unsaid}
 use Rattle.offset_files.proofs.reader.OffsetReader.second_naming.Goals as goal
 
-pub returns-then-self-offset-clause-held : goal.returns-then-self-offset-clause-held
-returns-then-self-offset-clause-held c = λ f l z h. absurd (omega (arith, l, h.table_long, c.if-self-offset.true))
-
-pub returns-then-repeats-lt20-clause-same : goal.returns-then-repeats-lt20-clause-same
-returns-then-repeats-lt20-clause-same c = let a = c.append_repeat.ensures in rw (a.name, a.text.buffer) refl
-
 pub returns-then-repeats-lt20-clause-held : goal.returns-then-repeats-lt20-clause-held
-returns-then-repeats-lt20-clause-held c = λ f l z h.
+returns-then-repeats-lt20-clause-held c = λ f z h.
     let a = c.append_repeat.ensures in
-    second_said h _ l _ (rw c.more-self.ensures at a.tally) c.more-self-2.ensures refl refl c.if-repeats-lt20.true (first_is h _ l) (rw c.more-self.ensures at a.text)
+    second_said h _ (omega arith) _ (rw c.more-self.ensures at a.tally) c.more-self-2.ensures refl refl c.if-repeats-lt20.true (first_is h _ (omega arith)) (rw c.more-self.ensures at a.text)
 
 pub returns-else-repeats-lt20-clause-held : goal.returns-else-repeats-lt20-clause-held
-returns-else-repeats-lt20-clause-held c = λ f l z h.
-    rw (c.more-self.ensures, c.more-self-2.ensures) (second_unsaid h _ l _ refl refl refl refl c.if-repeats-lt20.false refl)
+returns-else-repeats-lt20-clause-held c = λ f z h.
+    rw (c.more-self.ensures, c.more-self-2.ensures) (second_unsaid h _ (omega arith) _ refl refl refl refl c.if-repeats-lt20.false refl)

@@ -6,4 +6,4 @@ use Rattle.pair_files.proofs.reader.PairReader.blank_line.Goals as goal
 
 pub returns : goal.returns
 unfolding blank_line blank_counts
-returns c = report_made (λ f. refl) c.blank_line.ensures refl refl refl refl
+returns c = report_made (λ f. refl) c.blank_line.ensures.counted refl refl refl refl

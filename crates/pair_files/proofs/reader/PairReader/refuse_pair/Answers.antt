@@ -12,7 +12,7 @@ returns-then-bads-lt20 c =
     record {
       same = rw (a.name, a.text.buffer) refl;
       holds = λ f h.
-          bad_said h (λ (k : ℕ). faults_text r.report.now.name k r.size n.pair.old n.pair.new n.was n.came)
+          bad_said h (λ (k : ℕ). faults_text r.report.now.name.now k r.size n.pair.old n.pair.new n.was n.came)
           (rw c.more-self.ensures at a.tally) refl refl c.if-bads-lt20.true a.text;
     }
 
@@ -23,5 +23,5 @@ returns-else-bads-lt20 c =
     record {
       same = refl;
       holds = λ f h. rw c.more-self.ensures
-          (bad_unsaid h (λ (k : ℕ). faults_text r.report.now.name k r.size n.pair.old n.pair.new n.was n.came) refl refl refl c.if-bads-lt20.false refl);
+          (bad_unsaid h (λ (k : ℕ). faults_text r.report.now.name.now k r.size n.pair.old n.pair.new n.was n.came) refl refl refl c.if-bads-lt20.false refl);
     }

@@ -7,8 +7,8 @@ pub returns : goal.returns
 unfolding reason_text
 returns c = elim c.if-says-names.branch [
   | then-says-names w ↦ record {
-    same = rw w.self-is w.blank_line.ensures.same;
-    holds = λ f h. rw w.self-is (said_right h _ _ _ _ w.if-says-names.true (w.blank_line.ensures.holds f h));
+    same = rw w.self-is w.blank_line.ensures.counted.same;
+    holds = λ f h. rw w.self-is (said_right h _ _ _ _ w.if-says-names.true (w.blank_line.ensures.counted.holds f h));
   }
   | else-says-names w ↦ record {
     same = rw w.self-is w.bad_line.ensures.same;
