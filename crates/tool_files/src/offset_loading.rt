@@ -8,11 +8,11 @@ use crate::messages::Trouble;
 use crate::opening::open_file;
 use crate::reads::{Unread, read_text};
 use crate::reports::{tell_repeats, tell_report, tell_tally, tell_unread};
-use byte_texts::{ShownName, Text};
+use byte_texts::ShownName;
 use offset_files::OffsetReader;
 use std::io::{Input, Read, Write};
 use std::rt::Files;
-use text_lines::{FileReport, Tally};
+use text_lines::FileReport;
 
 // Reads a file of offsets. One call with the reader, which says of each of its buffers that it stays: else what they hold then is unknown to the caller. Hence one for each reader.
 fn read_offsets<F: Read>(file: &mut F, reader: &mut OffsetReader) -> Result<(), Unread>
