@@ -8,4 +8,4 @@ mod search;
 
 pub use longer_set::{longer, longer_number};
 pub use orders::{Compared, cmp, eq};
-pub use relations::{is_disjoint, is_subset, is_superset};
+pub use relations::{is_disjoint, is_subset, is_superset, subset_by_words};

@@ -20,7 +20,7 @@ fn disjoint_by_words(a: Checked, b: Checked) -> bool
 
 // Whether each bit of the first words is set in the others: word by word where both have words, and beyond them none.
 // Slices: that a word fits in 64 bits is known of a slice that is a parameter, and not of one that is a field.
-fn subset_by_words(words: &[u64], other: &[u64]) -> bool
+pub fn subset_by_words(words: &[u64], other: &[u64]) -> bool
     ensures { result ≡ not (some (length words.now * 64) (λ (p : ℕ). bit_of words.now p && not (bit_of other.now p))) }
 {
     let shared = words.len().min(other.len());
