@@ -38,7 +38,7 @@ impl Reads {
         ensures bytes { IfOk result (λ read. IfSome read (λ count. IsPrefixLen count buffer.new)) }
         ensures fewer { IfOk result (λ read. IfSome read (λ _. self.new.left < self.old.left)) }
     {
-        // The label is what a read that a signal broke off goes back to: no index is counted, and how often is bounded by `signals`.
+        // Until a read is not broken off: no index is counted, and `signals` bounds it.
         'again: loop {
             match file.read(buffer) {
                 Ok(0) => return Ok(None),
