@@ -1,4 +1,4 @@
-ghost use Rattle.std.specs.Prelude.{OnOk, cond, []};
+ghost use Rattle.std.specs.Prelude.{◌≡◌, OnOk, cond, []};
 ghost use Rattle.std.specs.Io.KnownBytes.{Appends};
 ghost use Rattle.byte_texts.specs.Texts.{shown_name};
 ghost use Rattle.listing_lines.specs.Offsets.{offsets_of};
@@ -29,7 +29,9 @@ impl<R: Files + Input, W: Write, E: Write> Tool<'_, R, W, E> {
         file: FileOffsets,
         other: FileOffsets,
     ) -> Result<(), Trouble>
-        ensures { OnOk result (Appends (W.contents self.old.out.now) (W.contents self.new.out.now) (cond self.old.options.quiet [] (job_text job (shown_name file.entry.name.now) (shown_name other.entry.name.now) (offsets_of file.entry.words.now) (offsets_of other.entry.words.now)))) }
+        ensures options { self.new.options ≡ self.old.options }
+        ensures arguments { self.new.arguments ≡ self.old.arguments }
+        ensures written { OnOk result (Appends (W.contents self.old.out.now) (W.contents self.new.out.now) (cond self.old.options.quiet [] (job_text job (shown_name file.entry.name.now) (shown_name other.entry.name.now) (offsets_of file.entry.words.now) (offsets_of other.entry.words.now)))) }
     {
         if self.options.quiet {
             return Ok(());

@@ -51,9 +51,15 @@ module _ {S K F : Type 0} {kept : S → K} {step : K → List ℕ → F → F} {
   read_end s' l k none h = let r = l.so_far none h in record { text = r.text; holds = rw l.same at k _ r.holds }
 
 -- a whole text with no bad line
-pub usable : {name : List ℕ} {r : OffsetReader} → ReadWhole (Offsets.take_line name) Offsets.no_lines (λ f. HoldsFile f r) → r.report.now.tally.bads ≡ 0 → Usable name r.words.now
+pub usable : {name : List ℕ} {r : OffsetReader} → ReadWhole (Offsets.take_line name) Offsets.no_lines (λ f. HoldsFile f r) → r.report.now.tally.bads ≡ 0 → Usable name r.words.now r.table.now
 unfolding Offsets.file_of
-usable h none = record { text = h.text; good = sym h.holds.counts.bads ∙ none; members = h.holds.members }
+usable h none = record {
+  text = h.text;
+  good = sym h.holds.counts.bads ∙ none;
+  members = h.holds.members;
+  table_long = h.holds.table_long;
+  entries = h.holds.entries;
+}
 
 pub usable_pairs : {name : List ℕ} {size : ℕ} {r : PairReader} → ReadWhole (Pairs.take_pair name size) Pairs.no_pairs (λ f. HoldsPairs f r) → r.report.now.tally.bads ≡ 0
     → UsablePairs name size r.to.now r.from.now

@@ -3,7 +3,7 @@ use Rattle.std.specs.Prelude.{◌≡◌, not, List, [], ℕ, ◌<◌, eqb, lengt
 use Rattle.sets.specs.Members.{read}
 use Rattle.text_lines.specs.Texts.{take_bytes, at_end}
 use Rattle.offset_files.specs.Files.{file_of}
-use Rattle.offset_files.specs.Holds.{all_offsets}
+use Rattle.offset_files.specs.Holds.{all_offsets, table_word}
 use Rattle.pair_files.specs.Files.{pair_file_of}
 
 -- `step` is what one line more makes of a file
@@ -13,11 +13,13 @@ module _ {F : Type 0} (step : List ℕ → F → F) where
     pub text : List ℕ
     pub holds : H (at_end step (take_bytes step (record { file = none; rest = [] }) text))
 
--- a file that may be used: no line is bad, and the set has exactly the offsets that its lines name
-pub record Usable (name words : List ℕ) : Type 0 where
+-- a file that may be used: no line is bad, the set has exactly the offsets that its lines name, and the table has the line that names each first, and whether another does
+pub record Usable (name words table : List ℕ) : Type 0 where
   pub text : List ℕ
   pub good : (file_of name text).bads ≡ 0
   pub members : (p : ℕ) → p < 65536 → (read words all_offsets).has p ≡ not (eqb ((file_of name text).first p) 0)
+  pub table_long : length table ≡ 65536
+  pub entries : (p : ℕ) → p < 65536 → get_or table p 0 ≡ table_word ((file_of name text).first p) ((file_of name text).again p)
 
 -- a file of pairs that may be used: no line is bad, and the two tables have the words that its lines name; `size` is the new length
 pub record UsablePairs (name : List ℕ) (size : ℕ) (to from : List ℕ) : Type 0 where

@@ -1,7 +1,7 @@
 ghost use Rattle.std.specs.Prelude.{◌≡◌, IfOk, OnOk, length};
 ghost use Rattle.byte_texts.specs.Texts.{shown_name};
 ghost use Rattle.offset_files.specs.Files.{no_lines, take_line};
-ghost use Rattle.offset_files.specs.Holds.{HoldsFile};
+ghost use Rattle.offset_files.specs.Holds.{kept, HoldsFile};
 ghost use Rattle.tool_files.specs.Loading.{ReadWhole, Usable};
 
 use crate::messages::Trouble;
@@ -18,7 +18,7 @@ use text_lines::FileReport;
 fn read_offsets<F: Read>(file: &mut F, reader: &mut OffsetReader) -> Result<(), Unread>
     ensures same_words { reader.new.words.ghost_name ≡ reader.old.words.ghost_name }
     ensures same_table { reader.new.table.ghost_name ≡ reader.old.table.ghost_name }
-    ensures same_report { reader.new.report.ghost_name ≡ reader.old.report.ghost_name }
+    ensures same { kept reader.new ≡ kept reader.old }
     ensures whole { length reader.old.words.now ≡ 1024 → length reader.old.table.now ≡ 65536
         → IfOk result (λ _. ReadWhole (take_line reader.old.report.now.name.now) no_lines (λ f. HoldsFile f reader.new)) }
 {
@@ -35,7 +35,7 @@ fn load_open<F: Read, E: Write>(
     words: &mut [u64],
     table: &mut [u64],
 ) -> Result<(), Trouble>
-    ensures { OnOk result (Usable (shown_name name.now) words.new) }
+    ensures { OnOk result (Usable (shown_name name.now) words.new table.new) }
 {
     if words.len() != 1024 || table.len() != 65536 {
         return Err(Trouble);
@@ -69,7 +69,7 @@ pub fn load<R: Files + Input, E: Write>(
     words: &mut [u64],
     table: &mut [u64],
 ) -> Result<(), Trouble>
-    ensures { OnOk result (Usable (shown_name name.now) words.new) }
+    ensures { OnOk result (Usable (shown_name name.now) words.new table.new) }
 {
     let mut file = open_file(rt, name, err)?;
     load_open(&mut file, name, allow_empty, err, words, table)

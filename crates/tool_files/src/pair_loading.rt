@@ -1,7 +1,7 @@
 ghost use Rattle.std.specs.Prelude.{◌≡◌, IfOk, OnOk, length};
 ghost use Rattle.byte_texts.specs.Texts.{shown_name};
 ghost use Rattle.pair_files.specs.Files.{no_pairs, take_pair};
-ghost use Rattle.pair_files.specs.Holds.{HoldsPairs};
+ghost use Rattle.pair_files.specs.Holds.{kept, HoldsPairs};
 ghost use Rattle.tool_files.specs.Loading.{ReadWhole, UsablePairs};
 
 use crate::messages::Trouble;
@@ -18,7 +18,7 @@ use text_lines::FileReport;
 fn read_pairs<F: Read>(file: &mut F, reader: &mut PairReader) -> Result<(), Unread>
     ensures same_to { reader.new.to.ghost_name ≡ reader.old.to.ghost_name }
     ensures same_from { reader.new.from.ghost_name ≡ reader.old.from.ghost_name }
-    ensures same_report { reader.new.report.ghost_name ≡ reader.old.report.ghost_name }
+    ensures same { kept reader.new ≡ kept reader.old }
     ensures whole { length reader.old.to.now ≡ 65536 → length reader.old.from.now ≡ 65536
         → IfOk result (λ _. ReadWhole (take_pair reader.old.report.now.name.now reader.old.size) no_pairs (λ f. HoldsPairs f reader.new)) }
 {

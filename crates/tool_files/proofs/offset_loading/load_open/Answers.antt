@@ -7,4 +7,5 @@ use Rattle.tool_files.proofs.offset_loading.load_open.Goals as goal
 pub returns : goal.returns
 returns g c =
     let whole = rw (c.new-report.ensures.name, c.bytes.ensures, c.new-shown.ensures) at c.in_default.ensures.whole c.if-words-ne1024.false c.if-table-ne65536.false in
-    rw (c.words-2-1.given.1.1 (sym c.read_offsets.ensures.same_words)) (on_ok_weaker c.tell_tally.result (usable whole) c.tell_tally.ensures)
+    let same = c.read_offsets.ensures in
+    rw (c.words-2-1.given.1.1 (sym same.same_words), c.table-2-1.given.1.1 (sym same.same_table)) (on_ok_weaker c.tell_tally.result (usable whole) c.tell_tally.ensures)

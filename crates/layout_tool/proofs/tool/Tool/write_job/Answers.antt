@@ -5,8 +5,8 @@ use Rattle.listings.specs.Pages.{rest_text}
 use Rattle.listing_pieces.proofs.PageLaws.{first_is, nothing_left}
 use Rattle.layout_tool.proofs.tool.Tool.write_job.Goals as goal
 
-pub returns : goal.returns
-returns g c =
+pub returns-clause-written : goal.returns-clause-written
+returns-clause-written g c =
     let a = c.args in
     let name = c.bytes-name.result.now in
     let other = c.bytes-other_name.result.now in
