@@ -62,17 +62,16 @@ module _ (has : ℕ → Bool) (part : Part) (out : List ℕ) {x : FillOutcome} (
   steps = front_steps (length out) has part
 
   -- the loop from word 0 on, with the record of the part after the steps
-  pub fill_written : ◌≡◌ {A = ManyOutcome} (record { number = 0; count = x.count; part = record { low = x.low; high = part.high }; out = x.out }) (written out steps)
+  pub fill_written : {h : ℕ} → h ≡ part.high → ◌≡◌ {A = ManyOutcome} (record { number = 0; count = x.count; part = record { low = x.low; high = h }; out = x.out }) (written out steps)
   unfolding filled
-  fill_written =
-      ap (λ (y : FillOutcome). record { number = 0; count = y.count; part = record { low = y.low; high = part.high }; out = y.out })
+  fill_written k =
+      ap₂ (λ (y : FillOutcome) (h : ℕ). record { number = 0; count = y.count; part = record { low = y.low; high = h }; out = y.out })
       (e ∙ ap (λ (n : ℕ). stored 0 out (front_steps n has part)) (sub-zero (length out))
       ∙ ap (λ (n : ℕ). record { count = n; low = steps.part.low; out = steps.positions ++ drop n out }) (zero-add (length steps.positions)))
-      ∙ ap (λ (h : ℕ). record { number = 0; count = length steps.positions; part = record { low = steps.part.low; high = h }; out = steps.positions ++ drop (length steps.positions) out })
-      (sym (steps_high has (length out) part))
+      (k ∙ sym (steps_high has (length out) part))
 
   pub fill_room : x.count ≤ length out
-  fill_room = omega (arith, ap (λ (o : ManyOutcome). o.count) fill_written, steps_length has (length out) part)
+  fill_room = omega (arith, ap (λ (o : ManyOutcome). o.count) (fill_written refl), steps_length has (length out) part)
 
 -- what lies after the end of a buffer is nothing
 pub after_all : (n : ℕ) (xs ys : List ℕ) → n ≤ length xs → ys ++ post_of n (length xs - n) xs ≡ ys

@@ -1,15 +1,15 @@
 -- The loop that writes the positions of one part.
 use Rattle.std.specs.Prelude.{Bool, List, ◌++◌, ℕ, ◌+◌, ◌-◌, length, take, drop}
 use Rattle.next_many.specs.Many.{Many, front_steps}
-use Rattle.next_many.specs.declared.answers.Filled.{Filled}
+use Rattle.next_many.specs.declared.answers.Many.{Many as Answered}
 
 pub record FillOutcome : Type 0 where
   pub count : ℕ
   pub low : ℕ
   pub out : List ℕ
 
-abbrev pub fill_outcome : Filled → List ℕ → FillOutcome
-fill_outcome r out = record { count = r.count; low = r.low; out = out }
+abbrev pub fill_outcome : Answered → List ℕ → FillOutcome
+fill_outcome r out = record { count = r.count; low = r.part.low; out = out }
 
 -- the positions of the steps stand in the buffer from word n on, and its other words are as they were
 abbrev pub stored : ℕ → List ℕ → Many → FillOutcome

@@ -77,10 +77,3 @@ impl NextManyPair {
         }
     }
 }
-
-// How many words of the buffer are written, and where the part stands then.
-#[derive(Clone, Copy)]
-pub struct Filled {
-    pub count: usize,
-    pub low: usize,
-}

@@ -12,7 +12,7 @@ use crate::fill::fill;
 use parts::{Difference, Intersection, Ones, Select, Zeroes};
 use sets::{Checked, FixedBitSet, Part, Refusal};
 
-// What a call gives that is not refused.
+// What a call gives that is not refused: the positions are members of the checked sets.
 pub(crate) fn fill_part<S: Select>(
     a: Checked<'_>,
     b: Checked<'_>,
@@ -23,15 +23,7 @@ pub(crate) fn fill_part<S: Select>(
     ensures room { result.count ≤ length out.old }
     ensures steps { many_outcome (accepted_many result) out.new ≡ written out.old (front_steps (length out.old) (chosen S.selection (members a.entry) (members b.entry)) part) }
 {
-    let high = part.high;
-    let filled = fill::<S>(a.words, b.words, part.low, high, out);
-    Many {
-        count: filled.count,
-        part: Part {
-            low: filled.low,
-            high,
-        },
-    }
+    fill::<S>(a.words, b.words, part, out)
 }
 
 fn fill_one_set<S: Select>(
