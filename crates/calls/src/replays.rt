@@ -9,7 +9,7 @@ use crate::call::Call;
 use crate::one_call::make_call;
 use sets::{FixedBitSet, Refusal};
 
-// Five numbers: the set, the call, two numbers and a yes or no. A refused call leaves both sets as they were.
+// Five numbers: the set, the call, two numbers and a yes or no. A refused call leaves both sets as they were. The set's number is matched where it stands: nothing else reads it, and an enum would only be matched again.
 fn replay_one(
     a: FixedBitSet,
     words: &mut [u64],

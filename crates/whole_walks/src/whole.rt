@@ -13,7 +13,7 @@ use parts::{Difference, End, Intersection, Ones, Select};
 use sets::{Checked, FixedBitSet, Part, Refusal};
 use walks::{RowStep, first_part, step_rows};
 
-// Steps and answers are numbers in lent words, as C hands them over: 0 is a front step, and 2^64 - 1 an answer of none.
+// Steps and answers are numbers in lent words, as C hands them over: 0 is a front step, and 2^64 - 1 an answer of none. No `From`: neither type is this crate's.
 fn end_of(number: u64) -> End
     ensures { result ≡ end_of number }
 {
