@@ -22,31 +22,31 @@ padded_in n ws k h = ap (λ (t : Bool). cond t (get_or ws k 0) 0) (lt-ltb k n h)
 pub padded_out : (n : ℕ) (ws : List ℕ) (k : ℕ) → n ≤ k → padded n ws k ≡ 0
 padded_out n ws k h = ap (λ (t : Bool). cond t (get_or ws k 0) 0) (le-ltb k n h)
 
--- ---- one part, in the arm of operation o
+-- ---- one part
 
 pub record Words (ws : List ℕ) : Type 0 where
   pub fits : (k : ℕ) → get_or ws k 0 < 2 ^ 64
 
-module _ {op o : Operation} (told : op ≡ o) where
+module _ (op : Operation) where
   -- the first alone has: they stay, or are cleared
-  pub first_stays : joined o true false ≡ true → (first end : ℕ) {ws : List ℕ} → Words ws → ws ≡ swept first end (λ k w. joined_word op w 0) ws
-  first_stays y first end {ws} fw = swept_same first end _ ws (λ k l. rw told (ap (λ (t : Bool). cond t (get_or ws k 0) 0) (sym y) ∙ first_alone o _ (fw.fits k)))
+  pub first_stays : joined op true false ≡ true → (first end : ℕ) {ws : List ℕ} → Words ws → ws ≡ swept first end (λ k w. joined_word op w 0) ws
+  first_stays y first end {ws} fw = swept_same first end _ ws (λ k l. ap (λ (t : Bool). cond t (get_or ws k 0) 0) (sym y) ∙ first_alone op _ (fw.fits k))
 
-  pub first_ends : joined o true false ≡ false → (first end : ℕ) {ws : List ℕ} → Words ws
+  pub first_ends : joined op true false ≡ false → (first end : ℕ) {ws : List ℕ} → Words ws
       → swept first end zeroed ws ≡ swept first end (λ k w. joined_word op w 0) ws
   first_ends y first end {ws} fw =
-      swept_ext first end _ _ ws (λ k l. rw told (zeroed_is k (get_or ws k 0) ∙ ap (λ (t : Bool). cond t (get_or ws k 0) 0) (sym y) ∙ first_alone o _ (fw.fits k)))
+      swept_ext first end _ _ ws (λ k l. zeroed_is k (get_or ws k 0) ∙ ap (λ (t : Bool). cond t (get_or ws k 0) 0) (sym y) ∙ first_alone op _ (fw.fits k))
 
   -- the second alone has: they are copied, or cleared
-  pub second_comes : joined o false true ≡ true → (first end : ℕ) (ws : List ℕ) {vs : List ℕ} → Words vs
+  pub second_comes : joined op false true ≡ true → (first end : ℕ) (ws : List ℕ) {vs : List ℕ} → Words vs
       → swept first end (λ k w. get_or vs k 0) ws ≡ swept first end (λ k w. joined_word op 0 (get_or vs k 0)) ws
   second_comes y first end ws {vs} fv =
-      swept_ext first end _ _ ws (λ k l. rw told (ap (λ (t : Bool). cond t (get_or vs k 0) 0) (sym y) ∙ second_alone o _ (fv.fits k)))
+      swept_ext first end _ _ ws (λ k l. ap (λ (t : Bool). cond t (get_or vs k 0) 0) (sym y) ∙ second_alone op _ (fv.fits k))
 
-  pub second_ends : joined o false true ≡ false → (first end : ℕ) (ws : List ℕ) {vs : List ℕ} → Words vs
+  pub second_ends : joined op false true ≡ false → (first end : ℕ) (ws : List ℕ) {vs : List ℕ} → Words vs
       → swept first end zeroed ws ≡ swept first end (λ k w. joined_word op 0 (get_or vs k 0)) ws
   second_ends y first end ws {vs} fv =
-      swept_ext first end _ _ ws (λ k l. rw told (zeroed_is k (get_or ws k 0) ∙ ap (λ (t : Bool). cond t (get_or vs k 0) 0) (sym y) ∙ second_alone o _ (fv.fits k)))
+      swept_ext first end _ _ ws (λ k l. zeroed_is k (get_or ws k 0) ∙ ap (λ (t : Bool). cond t (get_or vs k 0) 0) (sym y) ∙ second_alone op _ (fv.fits k))
 
 -- ---- the three parts
 

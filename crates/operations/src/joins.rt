@@ -1,30 +1,50 @@
 ghost use Rattle.std.specs.Prelude.{◌≡◌, ℕ, min, length, get_or};
 ghost use Rattle.blocks.specs.Sweeps.{swept};
-ghost use Rattle.operations.specs.Operations.{joined_word, Makes};
+ghost use Rattle.operations.specs.Operations.{joined_word};
 
+use crate::join::{Difference, Intersection, Join, SymmetricDifference, Union};
 use crate::operation::Operation;
 use blocks::{change_blocks, copy_blocks};
 
-// The words below `end` that both slices have become what `word` makes of the two: the loop of the four operations.
-fn join<F: Fn(u64, u64) -> u64>(words: &mut [u64], other: &[u64], end: usize, word: F)
-    requires { F.IsAlwaysCallable word }
-    ensures { (op : ℕ → ℕ → ℕ) → Makes (F.post word) op → words.new ≡ swept 0 (min end (length other.now)) (λ (k w : ℕ). op w (get_or other.now k 0)) words.old }
+// The words below `end` that both slices have become the join of the two: the loop of the four operations.
+fn join_words<S: Join>(words: &mut [u64], other: &[u64], end: usize)
+    ensures { words.new ≡ swept 0 (min end (length other.now)) (λ (k w : ℕ). joined_word S.operation w (get_or other.now k 0)) words.old }
 {
     // By the index: nothing is known of words that an adapter of `iter_mut` writes.
     for k in 0..end.min(other.len()).min(words.len()) {
-        words[k] = word(words[k], other[k]);
+        words[k] = S::word(words[k], other[k]);
     }
 }
 
-// The words below `end` that both slices have become the join of the two. A closure for each case, since a function cannot give one back. Asks nothing: for the calls of this library, which have asked.
+// The words first..end, where the second set has none.
+fn join_first<S: Join>(words: &mut [u64], first: usize, end: usize)
+    ensures { words.new ≡ swept first end (λ (k w : ℕ). joined_word S.operation w 0) words.old }
+{
+    if !S::first_alone() {
+        change_blocks(words, first, end, 0, 0);
+    }
+}
+
+// The words first..end, where the first set has none.
+fn join_second<S: Join>(words: &mut [u64], other: &[u64], first: usize, end: usize)
+    ensures { words.new ≡ swept first (min end (length other.now)) (λ (k w : ℕ). joined_word S.operation 0 (get_or other.now k 0)) words.old }
+{
+    if S::second_alone() {
+        copy_blocks(words, other, first, end);
+    } else {
+        change_blocks(words, first, end.min(other.len()), 0, 0);
+    }
+}
+
+// The words below `end` that both slices have become the join of the two. Asks nothing: for the calls of this library, which have asked.
 pub fn join_common(words: &mut [u64], other: &[u64], end: usize, operation: Operation)
     ensures { words.new ≡ swept 0 (min end (length other.now)) (λ (k w : ℕ). joined_word operation w (get_or other.now k 0)) words.old }
 {
     match operation {
-        Operation::Union => join(words, other, end, |a, b| a | b),
-        Operation::Intersection => join(words, other, end, |a, b| a & b),
-        Operation::Difference => join(words, other, end, |a, b| a & !b),
-        Operation::SymmetricDifference => join(words, other, end, |a, b| a ^ b),
+        Operation::Union => join_words::<Union>(words, other, end),
+        Operation::Intersection => join_words::<Intersection>(words, other, end),
+        Operation::Difference => join_words::<Difference>(words, other, end),
+        Operation::SymmetricDifference => join_words::<SymmetricDifference>(words, other, end),
     }
 }
 
@@ -33,10 +53,10 @@ pub fn join_first_alone(words: &mut [u64], first: usize, end: usize, operation: 
     ensures { words.new ≡ swept first end (λ (k w : ℕ). joined_word operation w 0) words.old }
 {
     match operation {
-        Operation::Union => {}
-        Operation::Intersection => change_blocks(words, first, end, 0, 0),
-        Operation::Difference => {}
-        Operation::SymmetricDifference => {}
+        Operation::Union => join_first::<Union>(words, first, end),
+        Operation::Intersection => join_first::<Intersection>(words, first, end),
+        Operation::Difference => join_first::<Difference>(words, first, end),
+        Operation::SymmetricDifference => join_first::<SymmetricDifference>(words, first, end),
     }
 }
 
@@ -50,11 +70,12 @@ pub fn join_second_alone(
 )
     ensures { words.new ≡ swept first (min end (length other.now)) (λ (k w : ℕ). joined_word operation 0 (get_or other.now k 0)) words.old }
 {
-    let stop = end.min(other.len());
     match operation {
-        Operation::Union => copy_blocks(words, other, first, end),
-        Operation::Intersection => change_blocks(words, first, stop, 0, 0),
-        Operation::Difference => change_blocks(words, first, stop, 0, 0),
-        Operation::SymmetricDifference => copy_blocks(words, other, first, end),
+        Operation::Union => join_second::<Union>(words, other, first, end),
+        Operation::Intersection => join_second::<Intersection>(words, other, first, end),
+        Operation::Difference => join_second::<Difference>(words, other, first, end),
+        Operation::SymmetricDifference => {
+            join_second::<SymmetricDifference>(words, other, first, end)
+        }
     }
 }

@@ -1,4 +1,4 @@
-// What two bits make. No type parameter: the words that one set alone has go by the case, and not by the closure of two words.
+// What two bits make, where a call chooses it.
 #[derive(Clone, Copy)]
 pub enum Operation {
     Union,

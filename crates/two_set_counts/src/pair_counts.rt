@@ -6,14 +6,14 @@ ghost use Rattle.two_set_counts.specs.Rules.{union_count_rule, intersection_coun
 
 use crate::common::ones_common;
 use crate::rests::ones_beyond;
-use operations::Operation;
+use operations::{Difference, Intersection, Join, SymmetricDifference, Union};
 use sets::{Checked, FixedBitSet, Refusal};
 
 // How many members the two sets joined have: those in the words of both, then those beyond.
-fn joint_count(a: Checked, b: Checked, operation: Operation) -> usize
-    ensures { result ≡ joint_ones operation (members a.entry) (members b.entry) }
+fn joint_count<S: Join>(a: Checked, b: Checked) -> usize
+    ensures { result ≡ joint_ones S.operation (members a.entry) (members b.entry) }
 {
-    ones_common(a, b, operation) + ones_beyond(a, b, operation)
+    ones_common::<S>(a, b) + ones_beyond::<S>(a, b)
 }
 
 // How many positions the walk `union` gives. Asks 1 to 3 of both sets.
@@ -26,7 +26,7 @@ pub fn union_count(
     ensures { counted_of result ≡ union_count_rule a words.now b other.now }
 {
     let (a, b) = Checked::both(a, words, b, other)?;
-    Ok(joint_count(a, b, Operation::Union))
+    Ok(joint_count::<Union>(a, b))
 }
 
 // How many positions the walk `intersection` gives. Asks 1 to 3 of both sets.
@@ -39,7 +39,7 @@ pub fn intersection_count(
     ensures { counted_of result ≡ intersection_count_rule a words.now b other.now }
 {
     let (a, b) = Checked::both(a, words, b, other)?;
-    Ok(joint_count(a, b, Operation::Intersection))
+    Ok(joint_count::<Intersection>(a, b))
 }
 
 // How many positions the walk `difference` gives. Asks 1 to 3 of both sets.
@@ -52,7 +52,7 @@ pub fn difference_count(
     ensures { counted_of result ≡ difference_count_rule a words.now b other.now }
 {
     let (a, b) = Checked::both(a, words, b, other)?;
-    Ok(joint_count(a, b, Operation::Difference))
+    Ok(joint_count::<Difference>(a, b))
 }
 
 // How many positions the walk `symmetric_difference` gives. Asks 1 to 3 of both sets.
@@ -65,5 +65,5 @@ pub fn symmetric_difference_count(
     ensures { counted_of result ≡ symmetric_difference_count_rule a words.now b other.now }
 {
     let (a, b) = Checked::both(a, words, b, other)?;
-    Ok(joint_count(a, b, Operation::SymmetricDifference))
+    Ok(joint_count::<SymmetricDifference>(a, b))
 }

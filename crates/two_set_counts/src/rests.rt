@@ -2,7 +2,7 @@ ghost use Rattle.std.specs.Prelude.{◌≡◌, ◌*◌, ◌≤◌, min, length};
 ghost use Rattle.sets.specs.CheckedSets.{members};
 ghost use Rattle.two_set_counts.specs.Helpers.{ones_from, ones_beyond};
 
-use operations::Operation;
+use operations::Join;
 use range_counts::ones_of_words;
 use sets::Checked;
 
@@ -15,14 +15,19 @@ fn ones_from(set: Checked, first: usize) -> usize
 }
 
 // How many members in the words that one of the two sets alone has the operation takes.
-pub(crate) fn ones_beyond(a: Checked, b: Checked, operation: Operation) -> usize
-    ensures { result ≡ ones_beyond operation (min (length a.entry.words.now) (length b.entry.words.now) * 64) (members a.entry) (members b.entry) }
+pub(crate) fn ones_beyond<S: Join>(a: Checked, b: Checked) -> usize
+    ensures { result ≡ ones_beyond S.operation (min (length a.entry.words.now) (length b.entry.words.now) * 64) (members a.entry) (members b.entry) }
 {
     let shared = a.words.len().min(b.words.len());
-    match operation {
-        Operation::Union => ones_from(a, shared) + ones_from(b, shared),
-        Operation::Intersection => 0,
-        Operation::Difference => ones_from(a, shared),
-        Operation::SymmetricDifference => ones_from(a, shared) + ones_from(b, shared),
-    }
+    let first = if S::first_alone() {
+        ones_from(a, shared)
+    } else {
+        0
+    };
+    let second = if S::second_alone() {
+        ones_from(b, shared)
+    } else {
+        0
+    };
+    first + second
 }
