@@ -11,6 +11,7 @@ use word_bits::count_ones;
 pub(crate) fn ones_common<S: Join>(a: Checked, b: Checked) -> usize
     ensures { result ≡ count (min (length a.entry.words.now) (length b.entry.words.now) * 64) (λ (p : ℕ). joined S.operation (bit_of a.entry.words.now p) (bit_of b.entry.words.now p)) }
 {
+    // By the index: the loop over a `zip` knows the pairs so far as a list, and the laws of rows know words by their number.
     let mut sum = 0;
     for k in 0..a.words.len().min(b.words.len()) {
         sum += count_ones(S::word(a.words[k], b.words[k]));
