@@ -1,11 +1,15 @@
 -- Answers as C takes them.
-use Rattle.std.specs.Prelude.{true, false, ℕ, Option, Some, None}
+use Rattle.std.specs.Prelude.{Bool, true, false, ℕ, Option, Some, None}
 use Rattle.sets.specs.Outcomes.{Found}
 use Rattle.walks.specs.Rules.{Stepped, SteppedPair}
-use Rattle.export_answers.specs.declared.answers.Place.{Place}
 use Rattle.export_answers.specs.declared.answers.FbsFound.{FbsFound}
 use Rattle.export_answers.specs.declared.answers.FbsStepped.{FbsStepped}
 use Rattle.export_answers.specs.declared.answers.FbsSteppedPair.{FbsSteppedPair}
+
+-- what an answer has of a position or none
+pub record Place : Type 0 where
+  pub found : Bool
+  pub at : ℕ
 
 -- a position is found; for none, 0 stands in its place
 abbrev pub place_of : Option ℕ → Place

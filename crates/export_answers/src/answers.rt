@@ -1,7 +1,7 @@
 ghost use Rattle.std.specs.Prelude.{◌≡◌};
 ghost use Rattle.sets.specs.Refusals.{number_of, found_of};
 ghost use Rattle.walks.specs.Rules.{stepped_of, stepped_pair_of};
-ghost use Rattle.export_answers.specs.Answers.{place_of, export_found, export_stepped, export_stepped_pair};
+ghost use Rattle.export_answers.specs.Answers.{export_found, export_stepped, export_stepped_pair};
 
 use parts::Step;
 use sets::{Part, Refusal};
@@ -51,37 +51,16 @@ pub struct FbsLonger {
     pub count: usize,
 }
 
-// What the answers above have of an `Option`.
-#[derive(Clone, Copy)]
-struct Place {
-    found: bool,
-    at: usize,
-}
-
-impl From<Option<usize>> for Place {
-    ghost from_gives = { λ a r. r ≡ place_of a };
-
-    fn from(at: Option<usize>) -> Place {
-        Place {
-            found: at.is_some(),
-            at: at.unwrap_or(0),
-        }
-    }
-}
-
 impl From<Result<Option<usize>, Refusal>> for FbsFound {
     ghost from_gives = { λ a r. r ≡ export_found (found_of a) };
 
     fn from(answer: Result<Option<usize>, Refusal>) -> FbsFound {
         match answer {
-            Ok(at) => {
-                let place = Place::from(at);
-                FbsFound {
-                    number: 0,
-                    found: place.found,
-                    at: place.at,
-                }
-            }
+            Ok(at) => FbsFound {
+                number: 0,
+                found: at.is_some(),
+                at: at.unwrap_or(0),
+            },
             Err(refusal) => FbsFound {
                 number: refusal.into(),
                 found: false,
@@ -97,15 +76,12 @@ impl FbsStepped {
         ensures { result ≡ export_stepped (stepped_of part answer) }
     {
         match answer {
-            Ok(step) => {
-                let place = Place::from(step.at);
-                FbsStepped {
-                    number: 0,
-                    found: place.found,
-                    at: place.at,
-                    part: step.part,
-                }
-            }
+            Ok(step) => FbsStepped {
+                number: 0,
+                found: step.at.is_some(),
+                at: step.at.unwrap_or(0),
+                part: step.part,
+            },
             Err(refusal) => FbsStepped {
                 number: refusal.into(),
                 found: false,
@@ -122,16 +98,13 @@ impl FbsSteppedPair {
         ensures { result ≡ export_stepped_pair (stepped_pair_of one two answer) }
     {
         match answer {
-            Ok(step) => {
-                let place = Place::from(step.at);
-                FbsSteppedPair {
-                    number: 0,
-                    found: place.found,
-                    at: place.at,
-                    one: step.one,
-                    two: step.two,
-                }
-            }
+            Ok(pair) => FbsSteppedPair {
+                number: 0,
+                found: pair.at.is_some(),
+                at: pair.at.unwrap_or(0),
+                one: pair.one,
+                two: pair.two,
+            },
             Err(refusal) => FbsSteppedPair {
                 number: refusal.into(),
                 found: false,
