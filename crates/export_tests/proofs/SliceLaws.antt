@@ -1,5 +1,6 @@
 -- How many words the longer of two sets has. Assumes nothing.
 use mathlib.Core.Path.{◌≡◌, refl, sym, ap, ◌∙◌}
+use mathlib.Core.Bool.{true, false, false≢true}
 use mathlib.Core.List.{List}
 use mathlib.Core.Logic.{◌⊎◌, inl, inr}
 use Prim.Native.Nat.{ℕ, ◌≤◌, ◌<◌, max}
@@ -7,16 +8,29 @@ use native.Mathlib.Omega.{arith}
 use denote.Ref.{Bor}
 use lib.ListN.{length}
 use lib.Seq.{length-take-le}
+use Rattle.std.specs.Result.{is_ok}
+use Rattle.std.proofs.Common.{Result, Ok, Err}
 use Rattle.word_bits.proofs.Order.{lt-or-le}
 use Rattle.sets.specs.Members.{words_of}
 use Rattle.sets.specs.Questions.{both_questions}
+use Rattle.sets.specs.Refusals.{number_of}
 use Rattle.sets.specs.Rules.{SlicePart, first_words}
+use Rattle.sets.specs.declared.refusal.Refusal.{Refusal}
 use Rattle.sets.specs.declared.fixed_bit_set.FixedBitSet.{FixedBitSet}
 use Rattle.sets.proofs.OutcomeLaws.{given_no}
+use Rattle.sets.proofs.RefusalLaws.{number_ne0}
 use Rattle.sets.proofs.QuestionLaws.{Valid, BothValid, both_valid}
 use Rattle.set_views.proofs.SliceLaws.{own_part}
 use Rattle.comparisons.specs.Rules.{longer_rule}
 use Rattle.comparisons.proofs.SliceLaws.{longer_first, longer_second}
+
+pub ok_number : {A : Type 0} (r : Result A Refusal) → is_ok r ≡ true → number_of r ≡ 0
+ok_number (Ok x) e = refl
+ok_number (Err d) e = absurd (false≢true e)
+
+pub err_number : {A : Type 0} (r : Result A Refusal) → is_ok r ≡ false → number_of r ≡ 0 → ⊥
+err_number (Ok x) e z = false≢true (sym e)
+err_number (Err d) e z = number_ne0 d z
 
 module _ (a : FixedBitSet) (words : Bor (List ℕ)) (b : FixedBitSet) (other : Bor (List ℕ)) {part : SlicePart} (e : part ≡ longer_rule a words b other) where
   pub longer_none : (both_questions a words.now b other.now ≡ 0 → ⊥) → length part.words ≡ 0

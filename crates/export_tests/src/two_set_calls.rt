@@ -120,17 +120,10 @@ pub extern "C" fn fbs_longer<'a>(
     ensures { result ≡ export_longer a words.now b other.now }
 {
     let part = longer(a, words, b, other);
-    match longer_number(a, words, b, other) {
-        Ok(()) => FbsLonger {
-            second: a.length <= b.length,
-            offset: 0,
-            count: part.len(),
-        },
-        Err(_) => FbsLonger {
-            second: false,
-            offset: 0,
-            count: part.len(),
-        },
+    FbsLonger {
+        second: longer_number(a, words, b, other).is_ok() && a.length <= b.length,
+        offset: 0,
+        count: part.len(),
     }
 }
 
