@@ -1,6 +1,9 @@
 -- A text that is read piece by piece, from its start to its end. Assumes nothing.
 use mathlib.Core.Path.{◌≡◌, refl, sym, subst, ◌∙◌}
-use mathlib.Core.List.{List, [], ◌++◌}
+use mathlib.Core.List.{List, [], ◌++◌, append-nil}
+use Rattle.std.specs.Prelude.{Option}
+use Rattle.std.specs.Io.KnownBytes.{Consumes, IsAtEnd}
+use Rattle.std.proofs.KnownBytes.{Consumes-nil, Consumes-trans, Consumes-all}
 use Prim.Native.Nat.{ℕ}
 use Rattle.text_lines.specs.Rests.{HoldsRest}
 use Rattle.text_lines.specs.Readers.{HoldsText}
@@ -15,43 +18,42 @@ use Rattle.pair_files.specs.Holds.{HoldsPairs}
 use Rattle.pair_files.specs.declared.reader.PairReader.{PairReader}
 use Rattle.tool_files.specs.Loading.{ReadWhole, Usable, UsablePairs}
 
--- from the start: a text so far. `step` is what one line more makes of a file, and H t that the text t is held
-pub record ReadSome {F : Type 0} (step : List ℕ → F → F) (none : F) (H : Text F → Type 0) : Type 0 where
-  pub text : List ℕ
-  pub holds : H (take_bytes step (record { file = none; rest = [] }) text)
-
-module _ {S K F : Type 0} (kept : S → K) (step : K → List ℕ → F → F) (H : F → S → Type 0) (start : S) where
-  -- between two reads: the reader keeps what it had at the start, and holds a text so far
-  pub record Loading (s : S) (line : OpenLine) : Type 0 where
+module _ {S K F : Type 0} (kept : S → K) (step : K → List ℕ → F → F) (H : F → S → Type 0) (start : S) (left : Option (List ℕ)) where
+  -- between two reads: the reader keeps what it had at the start, and holds the text of the bytes so far. `step` is what one line more makes of a file
+  pub record Loading (s : S) (line : OpenLine) (rest : Option (List ℕ)) : Type 0 where
     pub same : kept s ≡ kept start
-    pub so_far : (none : F) → H none start → ReadSome (step (kept start)) none (λ t. HoldsText H t s line)
+    pub text : List ℕ
+    pub given : Consumes left rest text
+    pub so_far : (none : F) → H none start → HoldsText H (take_bytes (step (kept start)) (record { file = none; rest = [] }) text) s line
 
-module _ {S K F : Type 0} {kept : S → K} {step : K → List ℕ → F → F} {H : F → S → Type 0} {start : S} where
+module _ {S K F : Type 0} {kept : S → K} {step : K → List ℕ → F → F} {H : F → S → Type 0} {start : S} {left : Option (List ℕ)} where
   -- nothing is read yet
-  pub read_none : {line : OpenLine} → HoldsRest [] line → Loading kept step H start start line
+  pub read_none : {line : OpenLine} → HoldsRest [] line → Loading kept step H start left start line left
   unfolding take_bytes
-  read_none e = record { same = refl; so_far = λ none h. record { text = []; holds = record { file = h; rest = e } } }
+  read_none e = record { same = refl; text = []; given = Consumes-nil left; so_far = λ none h. record { file = h; rest = e } }
 
   -- a piece more
-  pub read_more : {s s' : S} {line line' : OpenLine} (piece : List ℕ) → Loading kept step H start s line → kept s' ≡ kept s
-      → ((t : Text F) → HoldsText H t s line → HoldsText H (take_bytes (step (kept s)) t piece) s' line') → Loading kept step H start s' line'
-  read_more {s' = s'} {line' = line'} piece l e k = record {
+  pub read_more : {s s' : S} {line line' : OpenLine} {rest rest' : Option (List ℕ)} (piece : List ℕ) → Loading kept step H start left s line rest → Consumes rest rest' piece → kept s' ≡ kept s
+      → ((t : Text F) → HoldsText H t s line → HoldsText H (take_bytes (step (kept s)) t piece) s' line') → Loading kept step H start left s' line' rest'
+  read_more {s' = s'} {line' = line'} {rest = rest} {rest' = rest'} piece l g e k = record {
     same = e ∙ l.same;
+    text = l.text ++ piece;
+    given = Consumes-trans left rest rest' l.text piece l.given g;
     so_far = λ none h.
-        let r = l.so_far none h in
-        record {
-          text = r.text ++ piece;
-          holds = subst (λ (t : Text F). HoldsText H t s' line') (sym (pieces (step (kept start)) (record { file = none; rest = [] }) r.text piece)) (rw l.same at k _ r.holds);
-        };
+        subst (λ (t : Text F). HoldsText H t s' line') (sym (pieces (step (kept start)) (record { file = none; rest = [] }) l.text piece)) (rw l.same at k _ (l.so_far none h));
   }
 
   -- the end of the text
-  pub read_end : {s : S} {line : OpenLine} (s' : S) → Loading kept step H start s line → ((t : Text F) → HoldsText H t s line → H (at_end (step (kept s)) t) s')
-      → (none : F) → H none start → ReadWhole (step (kept start)) none (λ f. H f s')
-  read_end s' l k none h = let r = l.so_far none h in record { text = r.text; holds = rw l.same at k _ r.holds }
+  pub read_end : {s : S} {line : OpenLine} {rest : Option (List ℕ)} (rest' : Option (List ℕ)) (s' : S) → Loading kept step H start left s line rest → Consumes rest rest' [] × IsAtEnd rest'
+      → ((t : Text F) → HoldsText H t s line → H (at_end (step (kept s)) t) s') → (none : F) → H none start → ReadWhole (step (kept start)) none left (λ f. H f s')
+  read_end {rest = rest} rest' s' l g k none h = record {
+    text = l.text;
+    known = Consumes-all left rest' l.text [] l.text (subst (Consumes left rest') (append-nil l.text) (Consumes-trans left rest rest' l.text [] l.given g.0)) g.1 refl;
+    holds = rw l.same at k _ (l.so_far none h);
+  }
 
 -- a whole text with no bad line
-pub usable : {name : List ℕ} {r : OffsetReader} → ReadWhole (Offsets.take_line name) Offsets.no_lines (λ f. HoldsFile f r) → r.report.now.tally.bads ≡ 0 → Usable name r.words.now r.table.now
+pub usable : {name : List ℕ} {left : Option (List ℕ)} {r : OffsetReader} → ReadWhole (Offsets.take_line name) Offsets.no_lines left (λ f. HoldsFile f r) → r.report.now.tally.bads ≡ 0 → Usable name r.words.now r.table.now
 unfolding Offsets.file_of
 usable h none = record {
   text = h.text;
@@ -61,7 +63,7 @@ usable h none = record {
   entries = h.holds.entries;
 }
 
-pub usable_pairs : {name : List ℕ} {size : ℕ} {r : PairReader} → ReadWhole (Pairs.take_pair name size) Pairs.no_pairs (λ f. HoldsPairs f r) → r.report.now.tally.bads ≡ 0
+pub usable_pairs : {name : List ℕ} {left : Option (List ℕ)} {size : ℕ} {r : PairReader} → ReadWhole (Pairs.take_pair name size) Pairs.no_pairs left (λ f. HoldsPairs f r) → r.report.now.tally.bads ≡ 0
     → UsablePairs name size r.to.now r.from.now
 unfolding Pairs.pair_file_of
 usable_pairs h none = record {

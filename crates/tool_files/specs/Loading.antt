@@ -1,5 +1,5 @@
--- What a file that was loaded is known to be. Which bytes the reads gave no contract can say: they are `text`.
-use Rattle.std.specs.Prelude.{◌≡◌, not, List, [], ℕ, ◌<◌, eqb, length, get_or}
+-- What a file that was loaded is known to be. `text` is all that was left to read where that is known, and of a file of the system no contract can say what that is.
+use Rattle.std.specs.Prelude.{◌≡◌, not, List, [], Option, IfSome, ℕ, ◌<◌, eqb, length, get_or}
 use Rattle.sets.specs.Members.{read}
 use Rattle.text_lines.specs.Texts.{take_bytes, at_end}
 use Rattle.offset_files.specs.Files.{file_of}
@@ -8,9 +8,10 @@ use Rattle.pair_files.specs.Files.{pair_file_of}
 
 -- `step` is what one line more makes of a file
 module _ {F : Type 0} (step : List ℕ → F → F) where
-  -- after the last read: a whole text, from a file with no lines
-  pub record ReadWhole (none : F) (H : F → Type 0) : Type 0 where
+  -- after the last read: a whole text, from a file with no lines, and that which is left to read where that is known
+  pub record ReadWhole (none : F) (left : Option (List ℕ)) (H : F → Type 0) : Type 0 where
     pub text : List ℕ
+    pub known : IfSome left (λ xs. text ≡ xs)
     pub holds : H (at_end step (take_bytes step (record { file = none; rest = [] }) text))
 
 -- a file that may be used: no line is bad, the set has exactly the offsets that its lines name, and the table has the line that names each first, and whether another does

@@ -20,7 +20,7 @@ fn read_offsets<F: Read>(file: &mut F, reader: &mut OffsetReader) -> Result<(), 
     ensures same_table { reader.new.table.ghost_name ≡ reader.old.table.ghost_name }
     ensures same { kept reader.new ≡ kept reader.old }
     ensures whole { length reader.old.words.now ≡ 1024 → length reader.old.table.now ≡ 65536
-        → IfOk result (λ _. ReadWhole (take_line reader.old.report.now.name.now) no_lines (λ f. HoldsFile f reader.new)) }
+        → IfOk result (λ _. ReadWhole (take_line reader.old.report.now.name.now) no_lines (F.remaining file.old) (λ f. HoldsFile f reader.new)) }
 {
     reader.start();
     read_text(file, reader)

@@ -20,7 +20,7 @@ fn read_pairs<F: Read>(file: &mut F, reader: &mut PairReader) -> Result<(), Unre
     ensures same_from { reader.new.from.ghost_name ≡ reader.old.from.ghost_name }
     ensures same { kept reader.new ≡ kept reader.old }
     ensures whole { length reader.old.to.now ≡ 65536 → length reader.old.from.now ≡ 65536
-        → IfOk result (λ _. ReadWhole (take_pair reader.old.report.now.name.now reader.old.size) no_pairs (λ f. HoldsPairs f reader.new)) }
+        → IfOk result (λ _. ReadWhole (take_pair reader.old.report.now.name.now reader.old.size) no_pairs (F.remaining file.old) (λ f. HoldsPairs f reader.new)) }
 {
     reader.start();
     read_text(file, reader)

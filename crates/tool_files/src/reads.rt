@@ -1,4 +1,5 @@
-ghost use Rattle.std.specs.Prelude.{◌≡◌, ◌<◌, IfOk, IfSome};
+ghost use Rattle.std.specs.Prelude.{◌≡◌, ◌<◌, [], IfOk, IfSome, IsNone, length, take};
+ghost use Rattle.std.specs.Io.KnownBytes.{Consumes, IsAtEnd};
 ghost use Rattle.io.specs.Counts.{IsPrefixLen};
 ghost use Rattle.tool_files.specs.Loading.{ReadWhole};
 
@@ -22,7 +23,9 @@ pub(crate) struct Reads {
 
 impl Reads {
     // The limits are 16 MiB and 1,000 signals: a proved loop has to end, and nothing says that a file or its signals do.
-    pub(crate) fn new() -> Reads {
+    pub(crate) fn new() -> Reads
+        ensures { result.left ≡ 16777217 }
+    {
         Reads {
             left: 16777217,
             signals: 1000,
@@ -37,8 +40,10 @@ impl Reads {
     ) -> Result<Option<usize>, Unread>
         ensures bytes { IfOk result (λ read. IfSome read (λ count. IsPrefixLen count buffer.new)) }
         ensures fewer { IfOk result (λ read. IfSome read (λ _. self.new.left < self.old.left)) }
+        ensures given { IfOk result (λ read. IfSome read (λ count. Consumes (F.remaining file.old) (F.remaining file.new) (take count buffer.new))) }
+        ensures end { IfOk result (λ read. IsNone read → 0 < length buffer.old → Consumes (F.remaining file.old) (F.remaining file.new) [] × IsAtEnd (F.remaining file.new)) }
     {
-        // Until a read is not broken off: no index is counted, and `signals` bounds it.
+        // Until a read is not broken off: no index is counted, and `signals` bounds it. The label is its name in the proof.
         'again: loop {
             match file.read(buffer) {
                 Ok(0) => return Ok(None),
@@ -62,7 +67,7 @@ impl Reads {
 pub(crate) fn read_text<F: Read, R: LineReader>(file: &mut F, reader: &mut R) -> Result<(), Unread>
     ensures same { R.kept reader.new ≡ R.kept reader.old }
     ensures whole { (none : R.File) → R.HoldsFile none reader.old
-        → IfOk result (λ _. ReadWhole (R.step (R.kept reader.old)) none (λ f. R.HoldsFile f reader.new)) }
+        → IfOk result (λ _. ReadWhole (R.step (R.kept reader.old)) none (F.remaining file.old) (λ f. R.HoldsFile f reader.new)) }
 {
     let mut buffer = [0u8; 65536];
     let mut line = OpenLine::new();
