@@ -1,8 +1,6 @@
-ghost use Rattle.std.specs.Prelude.{◌≤◌};
-
-use crate::numbers::{Reading, ended, take};
+use crate::numbers::Reading;
 use history::run_history;
-use sets::blocks_of;
+use sets::{FixedBitSet, blocks_of};
 use whole_walks::Walk;
 use word_lists::part;
 
@@ -23,17 +21,30 @@ pub struct Sets<'a> {
     pub out: &'a mut [u64],
 }
 
+// One of a line's two sets: the length that it begins with, and what it ends as.
+#[derive(Clone, Copy)]
+struct SetFields {
+    bits: u64,
+    length: u64,
+    sum: u64,
+}
+
+impl SetFields {
+    fn agrees(self, set: FixedBitSet, words: &[u64]) -> bool {
+        self.length == set.length as u64 && self.sum == checksum(words, blocks_of(set.length))
+    }
+}
+
 // A line's history and how it ends.
 #[derive(Clone, Copy)]
 struct History<'a> {
-    bits: [u64; 2],
+    a: SetFields,
+    b: SetFields,
     calls: &'a [u64],
     walk: u64,
     steps: &'a [u64],
-    lengths: [u64; 2],
     count: u64,
     answers: &'a [u64],
-    sums: [u64; 2],
 }
 
 // The fields of a line's numbers; none where they are not these.
@@ -56,14 +67,21 @@ fn history_of(numbers: &[u64]) -> Option<History<'_>> {
         return None;
     };
     Some(History {
-        bits: [*a_bits, *b_bits],
+        a: SetFields {
+            bits: *a_bits,
+            length: *a_length,
+            sum: *a_sum,
+        },
+        b: SetFields {
+            bits: *b_bits,
+            length: *b_length,
+            sum: *b_sum,
+        },
         calls,
         walk: *walk,
         steps,
-        lengths: [*a_length, *b_length],
         count: *count,
         answers,
-        sums: [*a_sum, *b_sum],
     })
 }
 
@@ -73,9 +91,9 @@ fn ends_alike(line: History, sets: &mut Sets) -> bool {
         return false;
     };
     let Ok(ran) = run_history(
-        line.bits[0] as usize,
+        line.a.bits as usize,
         sets.words,
-        line.bits[1] as usize,
+        line.b.bits as usize,
         sets.other,
         line.calls,
         &[],
@@ -85,26 +103,17 @@ fn ends_alike(line: History, sets: &mut Sets) -> bool {
     ) else {
         return false;
     };
-    line.lengths == [ran.a.length as u64, ran.b.length as u64]
+    line.a.agrees(ran.a, sets.words)
+        && line.b.agrees(ran.b, sets.other)
         && line.count == ran.count as u64
         && line.answers == part(sets.out, 0, line.steps.len())
-        && line.sums
-            == [
-                checksum(sets.words, blocks_of(ran.a.length)),
-                checksum(sets.other, blocks_of(ran.b.length)),
-            ]
 }
 
 // Whether a line's history ends as the line says; none for a line with no number, which is a comment.
-fn judged(line: Reading, numbers: &[u64], sets: &mut Sets) -> Option<bool> {
-    if line.is_bad {
-        return Some(false);
-    }
-    if line.count == 0 {
-        return None;
-    }
-    match history_of(part(numbers, 0, line.count)) {
-        Some(history) => Some(ends_alike(history, sets)),
+fn judged(reading: &mut Reading, sets: &mut Sets) -> Option<bool> {
+    match reading.line() {
+        Some([]) => None,
+        Some(numbers) => Some(history_of(numbers).is_some_and(|history| ends_alike(history, sets))),
         None => Some(false),
     }
 }
@@ -132,26 +141,25 @@ impl Tally {
     }
 }
 
-// What is left of a piece that was read: an unfinished line, and the tally so far.
-#[derive(Clone, Copy, Debug, PartialEq, Eq)]
-pub struct Fed {
-    pub reading: Reading,
+// The replay of a file that is read in pieces: an unfinished line, the sets that every line writes, and the tally so far.
+#[derive(Drop)]
+pub struct Replay<'a> {
+    pub reading: Reading<'a>,
+    pub sets: Sets<'a>,
     pub tally: Tally,
 }
 
-pub fn feed(piece: &[u8], fed: Fed, numbers: &mut [u64], sets: &mut Sets) -> Fed {
-    let mut reading = fed.reading;
-    let mut tally = fed.tally;
-    for byte in piece {
-        if *byte != b'\n' {
-            reading = take(reading, *byte, numbers);
-            continue;
-        }
-        let line = ended(reading, numbers);
-        reading = Reading::start();
-        if let Some(agrees) = judged(line, numbers, sets) {
-            tally.count(agrees);
+impl Replay<'_> {
+    pub fn feed(&mut self, piece: &[u8]) {
+        for byte in piece {
+            if *byte != b'\n' {
+                self.reading.take(*byte);
+                continue;
+            }
+            if let Some(agrees) = judged(&mut self.reading, &mut self.sets) {
+                self.tally.count(agrees);
+            }
+            self.reading.next_line();
         }
     }
-    Fed { reading, tally }
 }

@@ -4,7 +4,7 @@
 mod histories;
 mod numbers;
 
-use histories::{Fed, Sets, Tally, feed};
+use histories::{Replay, Sets, Tally};
 use numbers::Reading;
 use std::io::{Print, Read};
 use std::{fs, io};
@@ -17,25 +17,23 @@ fn replay_file<F: Read>(file: &mut F) -> Tally {
     let mut words = [7u64; 1024];
     let mut other = [9u64; 1024];
     let mut out = [0u64; 64];
-    let mut sets = Sets {
-        words: &mut words,
-        other: &mut other,
-        out: &mut out,
-    };
-    let mut fed = Fed {
-        reading: Reading::start(),
+    let mut replay = Replay {
+        reading: Reading::new(&mut numbers),
+        sets: Sets {
+            words: &mut words,
+            other: &mut other,
+            out: &mut out,
+        },
         tally: Tally::new(),
     };
     let mut buffer = [0u8; 4096];
     for _ in 0..MOST_READS {
         match file.read(&mut buffer) {
             Ok(0) | Err(_) => break,
-            Ok(count) => {
-                fed = feed(&buffer[..count], fed, &mut numbers, &mut sets);
-            }
+            Ok(count) => replay.feed(&buffer[..count]),
         }
     }
-    fed.tally
+    replay.tally
 }
 
 fn tell<R: Print>(rt: &R, tally: Tally) -> io::Result<()> {
