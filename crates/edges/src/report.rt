@@ -2,7 +2,7 @@ use sets::{Counted, Edited, FixedBitSet, Refusal, Told};
 use std::io::Print;
 use std::{fmt, io};
 
-// How many cases were run, and how many answered other than the document says. Answers are judged and printed by their numbers, as the document has them.
+// How many cases were run, and how many answered other than the document says. What is expected stands as a number and a value, and not as a `Result`: so the document has it, and a reader compares the two line by line.
 #[derive(Clone, Copy)]
 pub struct Report<'r, R> {
     rt: &'r R,
@@ -33,6 +33,18 @@ impl fmt::Display for Place {
             Some(position) => write!(f, "{position}"),
             None => f.write_str("none"),
         }
+    }
+}
+
+#[derive(Clone, Copy)]
+struct Places<'a>(&'a [Option<usize>]);
+
+impl fmt::Display for Places<'_> {
+    fn fmt<W: fmt::Write>(&self, f: &mut fmt::Formatter<W>) -> fmt::Result {
+        for at in self.0 {
+            write!(f, " {}", Place(*at))?;
+        }
+        Ok(())
     }
 }
 
@@ -169,6 +181,16 @@ impl<'r, R: Print> Report<'r, R> {
 
     pub fn numbers(&mut self, text: &str, given: &[u64], expected: &[u64]) -> io::Result<()> {
         print!(self.rt; "{text} ->{}", Numbers(given))?;
+        self.judge(given == expected)
+    }
+
+    pub fn positions(
+        &mut self,
+        text: &str,
+        given: &[Option<usize>],
+        expected: &[Option<usize>],
+    ) -> io::Result<()> {
+        print!(self.rt; "{text} ->{}", Places(given))?;
         self.judge(given == expected)
     }
 

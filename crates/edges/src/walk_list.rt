@@ -73,18 +73,18 @@ fn zeroes<R: Print>(report: &mut Report<'_, R>) -> io::Result<()> {
     let set = FixedBitSet::new(3);
     let words: [u64; 1] = [2];
     let mut part = first_part(set);
-    let mut answers = [0; 3];
+    let mut answers = [None; 3];
     for answer in &mut answers {
         let Ok(step) = zeroes_next(set, &words, part) else {
             break;
         };
         part = step.part;
-        *answer = step.at.map_or(u64::MAX, |position| position as u64);
+        *answer = step.at;
     }
-    report.numbers(
+    report.positions(
         "   L = 3, {1}: zeroes, three front steps",
         &answers,
-        &[0, 2, u64::MAX],
+        &[Some(0), Some(2), None],
     )
 }
 
