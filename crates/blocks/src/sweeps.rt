@@ -10,11 +10,11 @@ pub fn block(words: &[u64], k: usize) -> u64
 }
 
 // Each word k of first..end that the slice has becomes (word & keep) ^ flip: set, cleared, flipped or kept whole.
-// Asks nothing: for the calls of this library, which have asked.
+// Asks nothing: for the calls of this library, which have asked. Those that write one value call it too: `fill` needs the bounds of its slice shown at each call (tried in fresh_sets: the search showed neither), and this takes any.
 pub fn change_blocks(words: &mut [u64], first: usize, end: usize, keep: u64, flip: u64)
     ensures { words.new ≡ swept first end (λ (k w : ℕ). bit_xor (bit_and w keep) flip) words.old }
 {
-    // By the index: a slice from `first` on would stop where `first` is past the end.
+    // By the index: a slice first..end needs the test `first < end` before it.
     for k in first..end.min(words.len()) {
         words[k] = (words[k] & keep) ^ flip;
     }
