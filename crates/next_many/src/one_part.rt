@@ -12,7 +12,7 @@ use crate::fill::fill;
 use parts::{Difference, Intersection, Ones, Select, Zeroes};
 use sets::{Checked, FixedBitSet, Part, Refusal};
 
-// What a call gives that is not refused: the positions are members of the checked sets.
+// What a call gives that is not refused: the positions are members of the checked sets. Beside `fill`, which is over slices: over checked sets it was tried, and that each word of the second fits in 64 bits was not known.
 pub(crate) fn fill_part<S: Select>(
     a: Checked<'_>,
     b: Checked<'_>,
