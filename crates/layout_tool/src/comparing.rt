@@ -6,7 +6,7 @@ use listing_pieces::same_offsets;
 use listings::Job;
 use std::io::{Input, Write};
 use std::rt::Files;
-use tool_files::{Fragment, Trouble, write_whole};
+use tool_files::{Fragment, Trouble, write_told};
 use verdict_lines::Tables;
 use whole_walks::Walk;
 
@@ -56,11 +56,7 @@ impl<R: Files + Input, W: Write, E: Write> Tool<'_, R, W, E> {
         table: &mut [u64],
     ) -> Result<Tables, Trouble> {
         let mut words: [u64; 1024] = [0; 1024];
-        let mut tables = Tables {
-            same: 0,
-            different: 0,
-            trouble: 0,
-        };
+        let mut tables = Tables::default();
         let operands = Words::new(self.arguments).filter_map(|word| word.operand());
         for name in operands.skip(2) {
             let outcome = self.compare_table(job, firmware, name, &mut words, table)?;
@@ -74,7 +70,7 @@ impl<R: Files + Input, W: Write, E: Write> Tool<'_, R, W, E> {
         let mut line = [0u8; 256];
         let mut text = Text::new(&mut line);
         tables.append(&mut text);
-        write_whole(self.out, text.written(), self.err)
+        write_told(self.out, text.written(), self.err)
     }
 
     // Whether each table names the offsets of the firmware.

@@ -32,12 +32,10 @@ fn is_known(option: &[u8]) -> bool {
 
 // The first option that is none of these.
 pub(crate) fn unknown_option(text: &[u8]) -> Option<&[u8]> {
-    Words::new(text)
-        .filter_map(|word| match word {
-            Word::Option(option) if !is_known(option) => Some(option),
-            _ => None,
-        })
-        .next()
+    Words::new(text).find_map(|word| match word {
+        Word::Option(option) if !is_known(option) => Some(option),
+        _ => None,
+    })
 }
 
 fn has_option(text: &[u8], option: &[u8]) -> bool {

@@ -10,6 +10,7 @@ use tool_files::{EBADF, Fragment, fail, tell};
 // The words of the command line, each with a zero byte behind it.
 fn gather<'a, R: Env>(rt: &R, arguments: &'a mut [u8]) -> Option<&'a [u8]> {
     let mut text = Text::new(arguments);
+    // Word by word: `std::env::args` asks for an allocator.
     for k in 1..usize::MAX {
         let mut word = [0u8; 4096];
         match rt.arg(k, &mut word) {

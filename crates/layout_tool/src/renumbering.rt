@@ -12,9 +12,7 @@ impl<R: Files + Input, W: Write, E: Write> Tool<'_, R, W, E> {
     // The list of the new offsets.
     fn write_moved(&mut self, file: FileOffsets, to: &[u64]) -> Result<Status, Trouble> {
         let mut moved: [u64; 1024] = [0; 1024];
-        if move_members(file.words, to, &mut moved).is_err() {
-            return Err(not_listed(self.err));
-        }
+        move_members(file.words, to, &mut moved).map_err(|_| not_listed(self.err))?;
         let list = FileOffsets {
             name: file.name,
             words: &moved,

@@ -6,7 +6,7 @@ use std::fmt;
 use std::io::{Input, Write};
 use std::rt::Files;
 use tool_files::Fragment::{Name, Text};
-use tool_files::{Fragment, Trouble, fail, incomplete, load, write_whole};
+use tool_files::{Fragment, Trouble, fail, incomplete, load, write_told};
 use whole_walks::Walk;
 
 // How a run came out; shown as the exit status: 0 the same or complete, 1 different, 2 trouble.
@@ -71,7 +71,7 @@ impl<'a, R: Files + Input, W: Write, E: Write> Tool<'a, R, W, E> {
     }
 
     fn write(&mut self, text: &[u8]) -> Result<Status, Trouble> {
-        write_whole(self.out, text, self.err)?;
+        write_told(self.out, text, self.err)?;
         Ok(Status::Complete)
     }
 

@@ -7,7 +7,7 @@ ghost use Rattle.listing_lines.specs.Listings.{offset_of, line_of, listed};
 
 use byte_texts::Text;
 
-// On a sheet each line starts with its place and how many lines there are. The theorems of specs/ are over these two fields, as `Job` has them, so no `Option` of the total.
+// On a sheet each line starts with its place and how many lines there are. No `Option` of the total: `place_text` and each definition above it take the two as arguments, and the contract of `append_place` names both.
 #[derive(Clone, Copy)]
 pub struct Places {
     pub sheet: bool,
@@ -69,7 +69,7 @@ impl<'a> Listing<'a> {
         out.append(b"\n");
     }
 
-    // The offsets one a line, from a place on. Nothing is written where a place would be 2 ^ 64.
+    // The offsets one a line, from a place on. Nothing is written where a place would be 2 ^ 64. Lines of pairs (pair_listings) have a loop of their own: one over a closure would take a third definition of lines, and a law from it to `lines_text` and to `pair_lines_text`.
     pub fn append_lines(self, out: &mut Text, offsets: &[u64], place: usize)
         ensures { place + length offsets.now < 2 ^ 64 → Appended out.old out.new (listed self.entry place offsets.now) }
     {

@@ -20,7 +20,7 @@ pub struct Page<S, R> {
     pub place: usize,
 }
 
-// How many bytes of the buffer are the next piece, and what is left then. A length and no slice, which would keep the buffer lent while the page is kept.
+// How many bytes of the buffer are the next piece, and what is left then. A length and no slice: the public contracts are equations of such values, and a slice would bring its address into them.
 #[derive(Clone, Copy)]
 pub struct Written<S, R> {
     pub length: usize,

@@ -1,6 +1,6 @@
 ghost use Rattle.std.specs.Prelude.{◌≡◌, Some};
 ghost use Rattle.listings.specs.Fills.{filled_of};
-ghost use Rattle.listings.specs.Pages.{first_walk, first_page};
+ghost use Rattle.listings.specs.Pages.{first_records, first_walk, first_page};
 ghost use Rattle.listing_pieces.specs.Pieces.{after_first, page_after};
 
 use listings::{Job, Lines, Page, Stage};
@@ -8,19 +8,26 @@ use sets::FixedBitSet;
 use walks::first_part;
 use whole_walks::{Records, Walk};
 
+// The records before any step.
+fn first_records() -> Records
+    ensures { result ≡ first_records }
+{
+    let part = first_part(FixedBitSet { length: 65536 });
+    Records {
+        one: part,
+        two: part,
+    }
+}
+
 // The page before any line.
 #[tactic(auto, unfolding(listings::specs::Pages::first_page))]
 pub fn first_page(job: Job) -> Page
     ensures { result ≡ first_page job }
 {
-    let part = first_part(FixedBitSet { length: 65536 });
     let stage = if job.count { Stage::Last } else { Stage::First };
     Page {
         stage,
-        records: Records {
-            one: part,
-            two: part,
-        },
+        records: first_records(),
         place: 1,
     }
 }
@@ -54,13 +61,9 @@ pub(crate) fn page_after(lines: Lines, stage: Stage, then: Stage) -> Page
     ensures { result ≡ page_after (filled_of lines.records lines.place (Some lines)) stage then }
 {
     if lines.over {
-        let part = first_part(FixedBitSet { length: 65536 });
         return Page {
             stage: then,
-            records: Records {
-                one: part,
-                two: part,
-            },
+            records: first_records(),
             place: lines.place,
         };
     }

@@ -90,7 +90,7 @@ impl<'a> Writing<'a> {
         })
     }
 
-    // As the first ones, with the files swapped; each of the two is proved against its own stage.
+    // As the first ones, with the files swapped. What the two share is `fill_walk` and `page_after`: a function of both would have a contract that says again what those say, and each stage would be proved from it as it is now.
     fn second_lines(self, page: Page, out: &mut [u8]) -> Option<Written>
         requires { page.stage ≡ Stage.Second }
         ensures { PieceWell self.entry.job self.entry.name.now self.entry.table.now self.entry.pair.words.now self.entry.pair.other.now page out.new (piece_of page result) }

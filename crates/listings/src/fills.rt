@@ -60,7 +60,7 @@ pub fn fill_walk(
             return None;
         }
         next += many.count;
-        // No `From`: both types are those of other crates, and this is the one place.
+        // No `From`: it would stand in next_many, which owns `ManyPair`, and this is the one place that asks for it.
         left = Records {
             one: many.one,
             two: many.two,

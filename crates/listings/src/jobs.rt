@@ -4,7 +4,7 @@ ghost use Rattle.listings.specs.Stages.{is_over};
 use listing_lines::Progress;
 use whole_walks::{Records, Walk};
 
-// What is written of two files: a comparison, or the list of a walk; on a sheet, or the counts alone; one of several tables. The theorems of specs/ are over these fields, so no enum holds `walk` or `several` alone.
+// What is written of two files: a comparison, or the list of a walk; on a sheet, or the counts alone; one of several tables. No enum holds `walk` or `several` alone: `first_walk`, `total_of` and `last_text` each ask `compare` and then the one field, and each would have to take the enum apart.
 #[derive(Clone, Copy)]
 pub struct Job {
     pub walk: Walk,

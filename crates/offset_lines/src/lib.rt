@@ -15,4 +15,4 @@ pub use items::Items;
 pub use last_lines::said_number;
 pub use lines::{offset_of, parse_by, parse_line};
 pub use numbers::read_number;
-pub use scans::{Digits, has_return, is_void, read_digits, skip_blanks};
+pub use scans::{Digits, has_return, is_void, read_digits, skip_blanks, without_return};

@@ -11,7 +11,7 @@ pub struct Digits {
 
 // A line without the carriage return that ends it.
 #[tactic(auto, using(crate::proofs::Texts::end_empty, crate::proofs::Texts::end_return, crate::proofs::Texts::end_other))]
-pub(crate) fn without_return(line: &[u8]) -> &[u8]
+pub fn without_return(line: &[u8]) -> &[u8]
     ensures bytes { result.now ≡ without_return line.now }
     ensures start { result.ref_ptr ≡ line.entry.ref_ptr }
 {

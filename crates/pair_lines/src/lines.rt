@@ -19,6 +19,7 @@ fn pair_of(first: Digits, second: Digits) -> Result<Pair, Fault>
     }
     let old = offset_of(first.value)?;
     let new = offset_of(second.value)?;
+    // `offset_of` gives numbers below 65,536 alone: `try_from` would have a case that cannot be.
     Ok(Pair {
         old: old as u16,
         new: new as u16,

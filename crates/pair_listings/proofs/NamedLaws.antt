@@ -1,6 +1,6 @@
 -- The offsets that a table names, offset by offset. Assumes nothing.
 use mathlib.Core.Path.{◌≡◌, refl, sym, ap, ◌∙◌, fun_ext}
-use mathlib.Core.Bool.{Bool, true, false, cond, ◌&&◌, and-false}
+use mathlib.Core.Bool.{Bool, true, false, cond, ◌&&◌, and-false, false≢true}
 use mathlib.Core.List.{List}
 use mathlib.Core.Logic.{◌⊎◌, inl, inr}
 use Prim.Native.Nat.{ℕ, ◌+◌, ◌≤◌, ◌<◌}
@@ -8,11 +8,14 @@ use native.Mathlib.Omega.{arith}
 use borrow.Author.Tests.{lt-ltb, le-ltb, ne_eqb, eqb-true, eqb-false}
 use lib.Dec.{eqb, ltb}
 use lib.ListN.{length}
+use Rattle.std.specs.Prelude.{Result, Ok, Err, is_ok}
 use Rattle.word_bits.proofs.Order.{lt-or-le}
 use Rattle.sets.specs.Members.{words_of, write, set_of, empty}
-use Rattle.sets.specs.Outcomes.{Outcome}
+use Rattle.sets.specs.Outcomes.{Outcome, outcome}
+use Rattle.sets.specs.Refusals.{edited_of}
 use Rattle.sets.specs.Questions.{questions, new_questions}
 use Rattle.sets.specs.declared.fixed_bit_set.FixedBitSet.{FixedBitSet}
+use Rattle.sets.specs.declared.refusal.Refusal.{Refusal}
 use Rattle.sets.proofs.OutcomeLaws.{given-accepted}
 use Rattle.sets.proofs.QuestionLaws.{room as room_of}
 use Rattle.edits.specs.Rules.{insert_rule}
@@ -40,12 +43,16 @@ module _ (table : ℕ → ℕ) where
     named_held room = written_held vs room (named_by table).has (named_clipped 65536 (omega arith))
 
     -- so a call that gives it leaves words that are read so
-    pub named_read : {made : FixedBitSet} {ws : List ℕ} → ◌≡◌ {A = Outcome} (record { number = 0; set = made; words = ws }) (named_set_rule table vs) → offsets_of ws ≡ named_by table
+    named_read : {made : FixedBitSet} {ws : List ℕ} → ◌≡◌ {A = Outcome} (record { number = 0; set = made; words = ws }) (named_set_rule table vs) → offsets_of ws ≡ named_by table
     named_read e =
         let g =
         given-accepted (λ (x : Outcome). x.number) (λ n. record { number = n; set = set_of (empty 0); words = vs })
         (record { number = 0; set = set_of (named_by table); words = write vs (named_by table) }) (new_questions 65536 (length vs)) (λ n. refl) e refl in
         ap (λ (x : Outcome). offsets_of x.words) g.1 ∙ (named_held (room_of 65536 (length vs) g.0).enough).1
+
+    pub made_read : {ws : List ℕ} (r : Result FixedBitSet Refusal) → outcome (edited_of (set_of (empty 0)) r) ws ≡ named_set_rule table vs → is_ok r ≡ true → offsets_of ws ≡ named_by table
+    made_read (Ok made) e h = named_read e
+    made_read (Err refusal) e h = absurd (false≢true h)
 
     pub named_start : {out : List ℕ} → out ≡ write vs (empty 65536) → out ≡ write vs (named_below 0 table)
     unfolding named_below

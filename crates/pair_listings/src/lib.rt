@@ -1,4 +1,4 @@
-// What the tool makes of a set and a table of pairs, and what it writes of them, piece by piece into a lent buffer. The calls take the words and the table side by side: a struct of both would be made anew for each call.
+// What the tool makes of a set and a table of pairs, and what it writes of them, piece by piece into a lent buffer. The public calls take the words and the table side by side, as their contracts name them; `next_piece` makes a struct of both anew for each piece.
 #![tactic(auto)]
 
 mod jobs;

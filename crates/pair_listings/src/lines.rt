@@ -45,7 +45,7 @@ pub(crate) fn append_pair_lines(
     }
 }
 
-// The last line of a list of pairs. That of offsets (verdict_lines) has another word, and a function of both words is no plainer than these lines.
+// The last line of a list of pairs. That of offsets (verdict_lines) has another word: a function of both words would take them as `offset_lines::Items` has them, and that is of the reader, which neither crate names.
 pub(crate) fn append_pairs_complete(out: &mut Text, n: u64)
     ensures { Appended out.old out.new (pairs_complete_text n) }
 {
@@ -58,7 +58,7 @@ pub(crate) fn append_pairs_complete(out: &mut Text, n: u64)
     }
 }
 
-// An offset of the old file that no line of the pairs names: the names of both files as they are shown, and the line that names the offset. `text_lines` writes such a start too, but is no crate that this one stands on.
+// An offset of the old file that no line of the pairs names: the names of both files as they are shown, and the line that names the offset. text_lines writes such a start too, but as a method of `FileReport`, which has a tally and a name besides.
 pub fn append_unpaired(out: &mut Text, old: &[u8], line: u64, offset: usize, pairs: &[u8])
     ensures { Appended out.old out.new (unpaired_text old.now line offset pairs.now) }
 {

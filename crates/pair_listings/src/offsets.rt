@@ -7,7 +7,7 @@ ghost use Rattle.listing_lines.specs.Offsets.{all_offsets, offsets_of};
 use sets::{FixedBitSet, Refusal};
 use whole_walks::{Walk, walk_count};
 
-// The words of a set of 65,536 bits that passes questions 1 to 3. `sets::Checked` has its length beside its words; here it is 65,536. A listing has two sets (listing_pieces), and as such a pair this one would be asked twice.
+// The words of a set of 65,536 bits that passes questions 1 to 3. `sets::Checked` has its length beside its words; here it is 65,536. A listing has two sets (listing_pieces): as such a pair this one would be asked twice, and as two of these it would share one call of `check`, with the type in a crate below both.
 #[derive(Clone, Copy)]
 pub(crate) struct Offsets<'a> {
     pub words: &'a [u64],

@@ -12,4 +12,4 @@ mod streams;
 pub use messages::{EBADF, Fragment, Trouble, fail, incomplete, not_listed, tell, write_report};
 pub use offset_loading::load;
 pub use pair_loading::load_pairs;
-pub use streams::{write_pieces, write_whole};
+pub use streams::{write_pieces, write_told, write_whole};

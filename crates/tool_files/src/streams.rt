@@ -5,18 +5,21 @@ ghost use Rattle.tool_files.specs.Pieces.{Leaves};
 
 use crate::messages::{Trouble, incomplete, not_listed};
 use listing_lines::{Page, Progress, Written};
+use std::io;
 use std::io::Write;
 
-// Writes all of the bytes to the standard output.
-pub fn write_whole<W: Write, E: Write>(
-    out: &mut W,
-    bytes: &[u8],
-    err: &mut E,
-) -> Result<(), Trouble>
+// Writes all of the bytes.
+pub fn write_whole<W: Write>(out: &mut W, bytes: &[u8]) -> io::Result<()>
     ensures { OnOk result (Appends (W.contents out.old) (W.contents out.new) bytes.now) }
 {
     out.write_all(bytes)
-        .map_err(|error| incomplete(err, &error))
+}
+
+// Writes all of the bytes to the standard output, and tells where that fails.
+pub fn write_told<W: Write, E: Write>(out: &mut W, bytes: &[u8], err: &mut E) -> Result<(), Trouble>
+    ensures { OnOk result (Appends (W.contents out.old) (W.contents out.new) bytes.now) }
+{
+    write_whole(out, bytes).map_err(|error| incomplete(err, &error))
 }
 
 // Writes the pieces that `next_piece` makes of one page after the other. The limit is never reached: a proved loop has to end.
@@ -37,7 +40,7 @@ where
         let Some(piece) = next_piece(page, &mut buffer) else {
             break;
         };
-        write_whole(out, &buffer[..piece.length.min(buffer.len())], err)?;
+        write_told(out, &buffer[..piece.length.min(buffer.len())], err)?;
         if piece.page.stage.is_over() {
             return Ok(());
         }

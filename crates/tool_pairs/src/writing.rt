@@ -36,8 +36,6 @@ pub fn write_back<W: Write, E: Write>(
     ensures { OnOk result (Appends (W.contents out.old) (W.contents out.new) (pairs_text job (entry_of from.now) (named_by (entry_of from.now)))) }
 {
     let mut named: [u64; 1024] = [0; 1024];
-    let Ok(_) = named_set(from, &mut named) else {
-        return Err(not_listed(err));
-    };
+    named_set(from, &mut named).map_err(|_| not_listed(err))?;
     write_pairs(job, &named, from, out, err)
 }

@@ -19,7 +19,7 @@ fn append_offsets(out: &mut Text, n: u64)
     }
 }
 
-// The last line of a list. That of a list of pairs (pair_listings) has another word, and a function of both words is no plainer than these lines.
+// The last line of a list. That of a list of pairs (pair_listings) has another word: a function of both words would take them as `offset_lines::Items` has them, and that is of the reader, which neither crate names.
 pub fn append_complete(out: &mut Text, n: u64)
     ensures { Appended out.old out.new (complete_text n) }
 {
@@ -130,7 +130,7 @@ fn append_trouble(out: &mut Text, n: u64)
 }
 
 // How many tables are the same, different and not compared.
-#[derive(Clone, Copy)]
+#[derive(Clone, Copy, Default)]
 pub struct Tables {
     pub same: u64,
     pub different: u64,
