@@ -39,10 +39,9 @@ fn words_order(words: &[u64], other: &[u64]) -> Ordering
 fn order_of(a: Checked, b: Checked) -> Ordering
     ensures { order_number result ≡ order (members a.entry) (members b.entry) }
 {
-    match a.length.cmp(&b.length) {
-        Ordering::Equal => words_order(a.words, b.words),
-        unequal => unequal,
-    }
+    a.length
+        .cmp(&b.length)
+        .then_with(|| words_order(a.words, b.words))
 }
 
 // Whether the two sets have the same length and the same members. Asks 1 to 3 of both sets.
