@@ -11,6 +11,7 @@ use sets::{FixedBitSet, Refusal};
 pub fn longer<'a>(a: FixedBitSet, words: &'a [u64], b: FixedBitSet, other: &'a [u64]) -> &'a [u64]
     ensures { slice_part result ≡ longer_rule a words.entry b other.entry }
 {
+    // Not by the words of a `Checked`: it promises their members, and not where they start, which the clause tells.
     match longer_number(a, words, b, other) {
         Ok(()) => {
             if b.length < a.length {
