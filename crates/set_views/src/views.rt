@@ -25,6 +25,7 @@ pub fn is_empty(set: FixedBitSet, words: &[u64]) -> Result<bool, Refusal>
 pub fn as_slice(set: FixedBitSet, words: &[u64]) -> &[u64]
     ensures { slice_part result ≡ as_slice_rule set words.entry }
 {
+    // Not by the words of a `Checked`: it promises their members, and not where they start, which the clause tells.
     match set.check(words) {
         Ok(()) => &words[..blocks_of(set.length)],
         Err(_) => &words[..0],
