@@ -26,6 +26,7 @@ fn some_other(words: &[u64], start: usize, end: usize, skip: u64) -> bool
     if last <= first {
         return false;
     }
+    // `first_other`, which the least member needs, tells this too: one loop goes over whole words.
     if first_other(words, first + 1, last, skip) < last {
         return true;
     }
