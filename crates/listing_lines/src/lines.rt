@@ -7,7 +7,7 @@ ghost use Rattle.listing_lines.specs.Listings.{offset_of, line_of, listed};
 
 use byte_texts::Text;
 
-// On a sheet each line starts with its place and how many lines there are. No `Option` of the total: `place_text` and each definition above it take the two as arguments, and the contract of `append_place` names both.
+// On a sheet each line starts with its place and how many lines there are. No `Option` of the total: `place_text` takes the two as arguments, and the contract of `append_place` names both.
 #[derive(Clone, Copy)]
 pub struct Places {
     pub sheet: bool,

@@ -20,7 +20,7 @@ pub struct Page<S, R> {
     pub place: usize,
 }
 
-// How many bytes of the buffer are the next piece, and what is left then. A length and no slice: the public contracts are equations of such values, and a slice would bring its address into them.
+// How many bytes of the buffer are the next piece, and what is left then. A length and no slice: `Written::new` is an equation of such values, and a slice would bring its address into it.
 #[derive(Clone, Copy)]
 pub struct Written<S, R> {
     pub length: usize,

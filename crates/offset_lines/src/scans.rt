@@ -72,7 +72,7 @@ fn held_value(value: usize) -> Option<usize>
     (value <= 65536).then_some(value)
 }
 
-// The digits that a text starts with. One loop counts and reads them: two chains would go through them twice.
+// The digits that a text starts with. One loop counts and reads them: a chain would be a `fold` of a pair, whose closure needs as its contract what is here found by the search.
 pub fn read_digits(text: &[u8], base: u8) -> Digits
     ensures { result ≡ record { count = length (digits_of base text.now); value = held_value (value_of base (digits_of base text.now)) } }
 {

@@ -12,4 +12,4 @@ pub use jobs::{Job, Page, Stage, Written};
 pub use lines::append_unpaired;
 pub use moves::{move_members, named_set};
 pub use pages::{first_page, next_piece};
-pub use unpaired::{count_unpaired, first_unpaired};
+pub use unpaired::{count_unpaired, first_unpaired, is_unpaired};

@@ -26,7 +26,7 @@ fn append_pair(out: &mut Text, places: Places, place: usize, offset: u64, other:
     out.append(b"\n");
 }
 
-// The offsets and their partners, a pair a line, from a place on. Nothing is written where a place would be 2 ^ 64.
+// The offsets and their partners, a pair a line, from a place on. Nothing is written where a place would be 2 ^ 64. As `append_lines` of listing_lines: one loop for both would take a third definition of lines and two laws.
 pub(crate) fn append_pair_lines(
     out: &mut Text,
     offsets: &[u64],
@@ -58,7 +58,7 @@ pub(crate) fn append_pairs_complete(out: &mut Text, n: u64)
     }
 }
 
-// An offset of the old file that no line of the pairs names: the names of both files as they are shown, and the line that names the offset. text_lines writes such a start too, but as a method of `FileReport`, which has a tally and a name besides.
+// An offset of the old file that no line of the pairs names: the names of both files as they are shown, and the line that names the offset. `text_lines::Place` writes such a start too; this crate reads no text, and names text_lines for nothing else.
 pub fn append_unpaired(out: &mut Text, old: &[u8], line: u64, offset: usize, pairs: &[u8])
     ensures { Appended out.old out.new (unpaired_text old.now line offset pairs.now) }
 {

@@ -8,7 +8,7 @@ use sets::{FixedBitSet, member};
 
 // Whether an offset is a member that no pair names.
 #[tactic(auto, unfolding(crate::specs::Tables::is_unpaired, crate::specs::Tables::is_named))]
-fn is_unpaired(words: &[u64], to: &[u64], p: usize) -> bool
+pub fn is_unpaired(words: &[u64], to: &[u64], p: usize) -> bool
     ensures { result ≡ is_unpaired (entry_of to.now) (offsets_of words.now) p }
 {
     member(FixedBitSet::new(65536), words, p) && block(to, p) == 0

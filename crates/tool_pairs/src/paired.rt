@@ -3,7 +3,7 @@ ghost use Rattle.listing_lines.specs.Offsets.{offsets_of};
 ghost use Rattle.pair_listings.specs.Tables.{entry_of, unpaired_count};
 
 use byte_texts::{ShownName, Text};
-use pair_listings::{append_unpaired, count_unpaired, first_unpaired};
+use pair_listings::{append_unpaired, count_unpaired, is_unpaired};
 use std::io::Write;
 use tool_files::{Fragment, Trouble, fail, write_report};
 
@@ -17,15 +17,9 @@ fn report_members<'a>(
     pairs: &[u8],
 ) -> &'a [u8] {
     let mut report = Text::new(space);
-    // `successors` is no plainer: each start comes from the offset that was found, and the search has to end the loop too.
-    let mut from = 0;
-    for _ in 0..20 {
-        let Some(offset) = first_unpaired(words, to, from) else {
-            break;
-        };
+    for offset in (0..65536).filter(|p| is_unpaired(words, to, *p)).take(20) {
         let line = blocks::block(table, offset) / 2;
         append_unpaired(&mut report, old, line, offset, pairs);
-        from = offset.saturating_add(1);
     }
     report.written()
 }
