@@ -18,7 +18,7 @@ impl<'a, 'n, 'b> OffsetReader<'a, 'n, 'b> {
     {
         self.words.fill(0);
         self.table.fill(0);
-        self.report.tally = Tally::new();
+        self.report.tally = Tally::default();
         self.report.text.end = 0;
         self.repeats = 0;
     }

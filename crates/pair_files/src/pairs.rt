@@ -31,7 +31,7 @@ impl<'a, 'n, 'b> PairReader<'a, 'n, 'b> {
     {
         self.to.fill(0);
         self.from.fill(0);
-        self.report.tally = Tally::new();
+        self.report.tally = Tally::default();
         self.report.text.end = 0;
     }
 

@@ -31,7 +31,7 @@ impl<'n, 'b> FileReport<'n, 'b> {
     {
         FileReport {
             name,
-            tally: Tally::new(),
+            tally: Tally::default(),
             text: Text::new(out),
         }
     }
