@@ -4,6 +4,7 @@
 mod longer_set;
 mod orders;
 mod relations;
+mod search;
 
 pub use longer_set::{longer, longer_number};
 pub use orders::{Compared, cmp, eq};
