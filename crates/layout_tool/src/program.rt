@@ -5,7 +5,7 @@ use std::fs::OpenOptions;
 use std::io;
 use std::io::{Error, ErrorKind, Input, Write};
 use std::rt::Files;
-use tool_files::{EBADF, Fragment, fail, tell};
+use tool_files::{EBADF, Fragment, fail, tell, write_whole};
 
 // The words of the command line, each with a zero byte behind it.
 fn gather<'a, R: Env>(rt: &R, arguments: &'a mut [u8]) -> Option<&'a [u8]> {
@@ -61,7 +61,12 @@ fn verdict_file<R: Files>(rt: &R) -> io::Result<R::File> {
 
 fn give_verdict<R: Files>(rt: &R, status: Status) -> io::Result<()> {
     let mut file = verdict_file(rt)?;
-    writeln!(file, "{status}")
+    let mut line = [0u8; 2];
+    let mut text = Text::new(&mut line);
+    text.append_decimal(status.number());
+    text.append(b"\n");
+    // In one write: of two, another run into the same file could come between them.
+    write_whole(&mut file, text.written())
 }
 
 // The tool on the program's own arguments. The last act is the verdict, one line on descriptor 3: the status of `run`. With no verdict the run is trouble.

@@ -6,7 +6,7 @@ use std::fmt;
 use std::io::{Input, Write};
 use std::rt::Files;
 use tool_files::Fragment::{Name, Text};
-use tool_files::{Fragment, Trouble, fail, incomplete, load, write_told};
+use tool_files::{Fragment, Trouble, fail, incomplete, load, write_told, write_whole};
 use whole_walks::Walk;
 
 // How a run came out; shown as the exit status: 0 the same or complete, 1 different, 2 trouble.
@@ -17,13 +17,19 @@ pub enum Status {
     Trouble,
 }
 
+impl Status {
+    pub(crate) fn number(self) -> u64 {
+        match self {
+            Status::Complete => 0,
+            Status::Different => 1,
+            Status::Trouble => 2,
+        }
+    }
+}
+
 impl fmt::Display for Status {
     fn fmt<W: fmt::Write>(&self, f: &mut fmt::Formatter<W>) -> fmt::Result {
-        match self {
-            Status::Complete => f.write_str("0"),
-            Status::Different => f.write_str("1"),
-            Status::Trouble => f.write_str("2"),
-        }
+        write!(f, "{}", self.number())
     }
 }
 
@@ -96,7 +102,7 @@ impl<'a, R: Files + Input, W: Write, E: Write> Tool<'a, R, W, E> {
 
     // The help of all commands on the error stream, where no command is named.
     fn tell_help(&mut self) -> Trouble {
-        match self.err.write_all(general_help()) {
+        match write_whole(self.err, general_help()) {
             Ok(()) => Trouble,
             Err(error) => incomplete(self.err, &error),
         }

@@ -2,6 +2,7 @@ ghost use Rattle.std.specs.Prelude.{OnOk};
 ghost use Rattle.std.specs.Io.KnownBytes.{Appends};
 ghost use Rattle.tool_files.specs.Telling.{Told};
 
+use crate::streams::write_whole;
 use byte_texts::Text;
 use std::io;
 use std::io::{ErrorKind, Write};
@@ -53,7 +54,7 @@ fn reason(error: &io::Error) -> &'static [u8] {
 pub fn write_report<E: Write>(err: &mut E, text: &[u8]) -> Result<(), Trouble>
     ensures { OnOk result (Appends (E.contents err.old) (E.contents err.new) text.now) }
 {
-    err.write_all(text).map_err(|_| Trouble)
+    write_whole(err, text).map_err(|_| Trouble)
 }
 
 // Writes one line, of up to 255 bytes: how it starts, and the message.

@@ -6,13 +6,28 @@ ghost use Rattle.tool_files.specs.Pieces.{Leaves};
 use crate::messages::{Trouble, incomplete, not_listed};
 use listing_lines::{Page, Progress, Written};
 use std::io;
-use std::io::Write;
+use std::io::{Error, ErrorKind, Write};
 
-// Writes all of the bytes.
+// Writes all of the bytes: a short write goes on with the rest, and one that a signal broke off is made again, up to 1,000 times. By hand: how often std's
+// `write_all` makes it again is another number for each stream, and 2^64 for a file.
 pub fn write_whole<W: Write>(out: &mut W, bytes: &[u8]) -> io::Result<()>
     ensures { OnOk result (Appends (W.contents out.old) (W.contents out.new) bytes.now) }
 {
-    out.write_all(bytes)
+    let mut done: usize = 0;
+    let mut signals: usize = 1000;
+    while done < bytes.len() {
+        match out.write(&bytes[done..]) {
+            Ok(0) => return Err(Error::from(ErrorKind::WriteZero)),
+            Ok(count) => done += count,
+            Err(error) => {
+                if signals == 0 || error.kind() != ErrorKind::Interrupted {
+                    return Err(error);
+                }
+                signals -= 1;
+            }
+        }
+    }
+    Ok(())
 }
 
 // Writes all of the bytes to the standard output, and tells where that fails.
