@@ -3,7 +3,7 @@ ghost use Rattle.listing_lines.specs.Offsets.{offsets_of};
 ghost use Rattle.pair_listings.specs.Tables.{entry_of, unpaired_count};
 
 use byte_texts::{ShownName, Text};
-use pair_listings::{append_unpaired, count_unpaired, is_unpaired};
+use pair_listings::{append_unpaired, count_unpaired, first_unpaired};
 use std::io::Write;
 use tool_files::{Fragment, Trouble, fail, write_report};
 
@@ -17,9 +17,14 @@ fn report_members<'a>(
     pairs: &[u8],
 ) -> &'a [u8] {
     let mut report = Text::new(space);
-    for offset in (0..65536).filter(|p| is_unpaired(words, to, *p)).take(20) {
+    let mut from: usize = 0;
+    for _ in 0..20 {
+        let Some(offset) = first_unpaired(words, to, from) else {
+            break;
+        };
         let line = blocks::block(table, offset) / 2;
         append_unpaired(&mut report, old, line, offset, pairs);
+        from = offset.saturating_add(1);
     }
     report.written()
 }
