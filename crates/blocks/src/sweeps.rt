@@ -24,8 +24,8 @@ pub fn change_blocks(words: &mut [u64], first: usize, end: usize, keep: u64, fli
 pub fn copy_blocks(words: &mut [u64], other: &[u64], first: usize, end: usize)
     ensures { words.new ≡ swept first (min end (length other.now)) (λ (k w : ℕ). get_or other.now k 0) words.old }
 {
-    let stop = end.min(other.len()).min(words.len());
-    if first < stop {
-        words[first..stop].copy_from_slice(&other[first..stop]);
+    // By the index: `copy_from_slice` is a call of memmove, which the archive for C would need from outside.
+    for k in first..end.min(other.len()).min(words.len()) {
+        words[k] = other[k];
     }
 }
