@@ -1,7 +1,6 @@
 use crate::report::Report;
 use edits::insert_all;
 use sets::FixedBitSet;
-use std::io;
 use std::io::Print;
 
 // `insert_all` on {2}, L = 70, in three words.
@@ -12,15 +11,15 @@ fn listed<R: Print>(
     number: u64,
     first: u64,
     second: u64,
-) -> io::Result<()> {
+) {
     let mut words: [u64; 3] = [0x4, 0, 9];
     let set = FixedBitSet::new(70);
     let answer = insert_all(set, &mut words, positions);
-    report.edited(text, set, answer, &words, number, 70, &[first, second, 9])
+    report.edited(text, set, answer, &words, number, 70, &[first, second, 9]);
 }
 
 // A set with a stray bit refuses an empty list too.
-fn stray<R: Print>(report: &mut Report<'_, R>, positions: &[u64]) -> io::Result<()> {
+fn stray<R: Print>(report: &mut Report<'_, R>, positions: &[u64]) {
     let mut words: [u64; 1] = [0x8];
     let set = FixedBitSet::new(3);
     let answer = insert_all(set, &mut words, positions);
@@ -32,11 +31,11 @@ fn stray<R: Print>(report: &mut Report<'_, R>, positions: &[u64]) -> io::Result<
         3,
         3,
         &[0x8],
-    )
+    );
 }
 
 // C-11: all are inserted, or none.
-pub fn run<R: Print>(report: &mut Report<'_, R>) -> io::Result<()> {
+pub fn run<R: Print>(report: &mut Report<'_, R>) {
     listed(
         report,
         "   C-11: L = 70, {2}: insert_all 69, 0, 69",
@@ -44,7 +43,7 @@ pub fn run<R: Print>(report: &mut Report<'_, R>) -> io::Result<()> {
         0,
         0x5,
         0x20,
-    )?;
+    );
     listed(
         report,
         "   C-11: L = 70, {2}: insert_all 70, 0, 69",
@@ -52,7 +51,7 @@ pub fn run<R: Print>(report: &mut Report<'_, R>) -> io::Result<()> {
         4,
         0x4,
         0,
-    )?;
+    );
     listed(
         report,
         "   C-11: L = 70, {2}: insert_all 0, 70, 69",
@@ -60,7 +59,7 @@ pub fn run<R: Print>(report: &mut Report<'_, R>) -> io::Result<()> {
         4,
         0x4,
         0,
-    )?;
+    );
     listed(
         report,
         "   C-11: L = 70, {2}: insert_all 0, 69, 70",
@@ -68,7 +67,7 @@ pub fn run<R: Print>(report: &mut Report<'_, R>) -> io::Result<()> {
         4,
         0x4,
         0,
-    )?;
+    );
     listed(
         report,
         "   C-11: L = 70, {2}: insert_all 2^64 - 1",
@@ -76,7 +75,7 @@ pub fn run<R: Print>(report: &mut Report<'_, R>) -> io::Result<()> {
         4,
         0x4,
         0,
-    )?;
+    );
     let none: [u64; 0] = [];
     listed(
         report,
@@ -85,6 +84,6 @@ pub fn run<R: Print>(report: &mut Report<'_, R>) -> io::Result<()> {
         0,
         0x4,
         0,
-    )?;
-    stray(report, &none)
+    );
+    stray(report, &none);
 }

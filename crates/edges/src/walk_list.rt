@@ -1,12 +1,11 @@
 use crate::report::Report;
 use sets::FixedBitSet;
-use std::io;
 use std::io::Print;
 use walks::{first_part, zeroes_next};
 use whole_walks::{Walk, walk_whole};
 
 // A = {1, 70}, L = 71; B = {0, 1}, L = 2.
-fn two_sets<R: Print>(report: &mut Report<'_, R>) -> io::Result<()> {
+fn two_sets<R: Print>(report: &mut Report<'_, R>) {
     let a = FixedBitSet::new(71);
     let b = FixedBitSet::new(2);
     let words: [u64; 2] = [2, 64];
@@ -27,7 +26,7 @@ fn two_sets<R: Print>(report: &mut Report<'_, R>) -> io::Result<()> {
         &answers,
         3,
         &[1, 70, 0, u64::MAX],
-    )?;
+    );
     let mut answers: [u64; 3] = [0; 3];
     let answer = walk_whole(
         a,
@@ -44,10 +43,10 @@ fn two_sets<R: Print>(report: &mut Report<'_, R>) -> io::Result<()> {
         &answers,
         2,
         &[70, 0, u64::MAX],
-    )
+    );
 }
 
-fn both_ends<R: Print>(report: &mut Report<'_, R>) -> io::Result<()> {
+fn both_ends<R: Print>(report: &mut Report<'_, R>) {
     let set = FixedBitSet::new(65);
     let words: [u64; 2] = [0x8000000000000001, 1];
     let mut answers: [u64; 5] = [0; 5];
@@ -66,10 +65,10 @@ fn both_ends<R: Print>(report: &mut Report<'_, R>) -> io::Result<()> {
         &answers,
         3,
         &[0, 64, 63, u64::MAX, u64::MAX],
-    )
+    );
 }
 
-fn zeroes<R: Print>(report: &mut Report<'_, R>) -> io::Result<()> {
+fn zeroes<R: Print>(report: &mut Report<'_, R>) {
     let set = FixedBitSet::new(3);
     let words: [u64; 1] = [2];
     let mut part = first_part(set);
@@ -85,11 +84,11 @@ fn zeroes<R: Print>(report: &mut Report<'_, R>) -> io::Result<()> {
         "   L = 3, {1}: zeroes, three front steps",
         &answers,
         &[Some(0), Some(2), None],
-    )
+    );
 }
 
-pub fn run<R: Print>(report: &mut Report<'_, R>) -> io::Result<()> {
-    two_sets(report)?;
-    both_ends(report)?;
-    zeroes(report)
+pub fn run<R: Print>(report: &mut Report<'_, R>) {
+    two_sets(report);
+    both_ends(report);
+    zeroes(report);
 }

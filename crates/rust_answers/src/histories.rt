@@ -87,9 +87,8 @@ fn history_of(numbers: &[u64]) -> Option<History<'_>> {
 
 // Whether the run of a line's history ends as the line says.
 fn ends_alike(line: History, sets: &mut Sets) -> bool {
-    let Ok(walk) = Walk::try_from(line.walk) else {
-        return false;
-    };
+    // Any number from 4 up is the last walk.
+    let walk = Walk::try_from(line.walk).unwrap_or(Walk::SymmetricDifference);
     let Ok(ran) = run_history(
         line.a.bits as usize,
         sets.words,

@@ -36,8 +36,9 @@ fn replay_file<F: Read>(file: &mut F) -> Tally {
     replay.tally
 }
 
+// A text that cannot be written is left out: what was written is compared.
 fn tell<R: Print>(rt: &R, tally: Tally) -> io::Result<()> {
-    print!(rt; "{} histories of the Rust replayed: ", tally.histories)?;
+    let _said = print!(rt; "{} histories of the Rust replayed: ", tally.histories);
     if tally.different == 0 {
         return println!(rt; "all agree");
     }
