@@ -4,3 +4,4 @@ pub mod TableLaws
 pub mod HoldsLaws
 pub mod ChoiceLaws
 pub mod LineLaws
+pub mod TextLaws

@@ -33,7 +33,7 @@ impl FixedBitSet {
     }
 
     // Question 4.
-    fn ask_position(self, bit: usize) -> Result<(), Refusal>
+    pub fn ask_position(self, bit: usize) -> Result<(), Refusal>
         ensures { number_of result ≡ position_question self bit }
     {
         if self.length <= bit {
@@ -57,7 +57,7 @@ impl FixedBitSet {
     }
 
     // Question 4 of each position of a list. Those that are out are counted: a test and a sum for each, with no branch.
-    fn ask_positions(self, positions: &[u64]) -> Result<(), Refusal>
+    pub fn ask_positions(self, positions: &[u64]) -> Result<(), Refusal>
         ensures { number_of result ≡ positions_question self positions.now }
     {
         if self.count_out(positions) != 0 {
